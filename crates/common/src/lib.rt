@@ -1,0 +1,44 @@
+// The refusals of document 01, with their numbers. Assumes nothing.
+ghost use mathlib.Core.Path.{_≡_};
+ghost use Rattle.common.specs.Refusal.{numberOf};
+
+// 01, Events: the table's rows, in its order. A refused call changes nothing and gives back only this.
+pub enum Refusal {
+    // 1: channel above 1
+    Channel,
+    // 2: a line bit, DCD or CTS above 1
+    Level,
+    // 3: a WR4 write that names a mode which is not built
+    Mode,
+    // 4: acknowledge with no pending source above all those in service
+    NothingWaits,
+    // 5: list empty, or its first byte is not 1
+    NoList,
+    // 6: a note's length is 0 or above 2,048
+    NoteLength,
+    // 7: the list ends inside a length or a note
+    CutList,
+    // 8: the lent line buffer has fewer bytes from the named place on than the line
+    NoRoom,
+    // 9: list longer than 65,535 bytes
+    LongList,
+}
+
+impl Refusal {
+    // The paper's number.
+    pub fn number(self) -> u8
+        ensures { λ r. ⌜ r ≡ numberOf self ⌝ }
+    {
+        match self {
+            Refusal::Channel => 1,
+            Refusal::Level => 2,
+            Refusal::Mode => 3,
+            Refusal::NothingWaits => 4,
+            Refusal::NoList => 5,
+            Refusal::NoteLength => 6,
+            Refusal::CutList => 7,
+            Refusal::NoRoom => 8,
+            Refusal::LongList => 9,
+        }
+    }
+}
