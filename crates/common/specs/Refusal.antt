@@ -1,12 +1,12 @@
 -- 01, Events: the number that the paper gives each refusal. Assumes nothing.
 use Prim.Native.Nat.{ℕ}
 use Rattle.common.specs.declared.Refusal.{Refusal}
-use Rattle.common.specs.declared.Refusal.the-variants.{Channel, Level, Mode, NothingWaits, NoList, NoteLength, CutList, NoRoom, LongList}
+use Rattle.common.specs.declared.Refusal.the-variants.{Channel, Level, Setting, NothingWaits, NoList, NoteLength, CutList, NoRoom, LongList}
 
 abbrev pub numberOf : Refusal → ℕ
 numberOf Channel = 1
 numberOf Level = 2
-numberOf Mode = 3
+numberOf Setting = 3
 numberOf NothingWaits = 4
 numberOf NoList = 5
 numberOf NoteLength = 6

@@ -8,8 +8,8 @@ pub enum Refusal {
     Channel,
     // 2: a line bit, DCD or CTS above 1
     Level,
-    // 3: a WR4 write that names a mode which is not built
-    Mode,
+    // 3: a WR4 write that asks for what is not built
+    Setting,
     // 4: acknowledge with no pending source above all those in service
     NothingWaits,
     // 5: list empty, or its first byte is not 1
@@ -32,7 +32,7 @@ impl Refusal {
         match self {
             Refusal::Channel => 1,
             Refusal::Level => 2,
-            Refusal::Mode => 3,
+            Refusal::Setting => 3,
             Refusal::NothingWaits => 4,
             Refusal::NoList => 5,
             Refusal::NoteLength => 6,
