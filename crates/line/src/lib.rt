@@ -2,12 +2,15 @@
 use common::Refusal;
 
 ghost use mathlib.Core.Path.{_≡_};
-ghost use mathlib.Core.List.{_++_};
-ghost use Prim.Native.Nat.{_+_, _≤_};
+ghost use mathlib.Core.List.{[], _∷_, _++_};
+ghost use Prim.Native.Nat.{_+_, _-_, _≤_};
 ghost use lib.ListN.{length, drop};
+ghost use lib.Seq.{sets};
 ghost use Rattle.line.specs.Bits.{lowBits, cells};
-ghost use Rattle.line.specs.Check.{checkStep, checkOver};
+ghost use Rattle.line.specs.Check.{checkStep, checkOver, checkBits};
+ghost use Rattle.line.specs.Frame.{flagBits, contentOf, frame, zerosOf, ticksOf};
 ghost use Rattle.line.specs.Line.{noteFits, countOf, writeOf, bufferAfter};
+ghost use Rattle.line.specs.Pen.{taken, moved, laid};
 
 // How many zeros were inserted, or why there is no line.
 pub enum Counted {
@@ -15,12 +18,19 @@ pub enum Counted {
     Refused(Refusal),
 }
 
+// Where the next bit goes, and how many ones in a row went before it.
+pub struct Pen {
+    pub at: usize,
+    pub run: u8,
+}
+
 // x^16+x^12+x^5+1, the polynomial of SDLC.
 pub const SDLC: u16 = 0x1021;
-// A preset check.
+// A preset check, and what complements one.
 pub const ONES: u16 = 0xFFFF;
-// The longest note that a frame carries.
+// The longest note that a frame carries, and the longest line of one: 8(n+2)+16 bits and a zero for each five of the 8(n+2).
 pub const LONGEST_NOTE: usize = 2048;
+pub const LONGEST_LINE: usize = 8 * (LONGEST_NOTE + 2) + 16 + 8 * (LONGEST_NOTE + 2) / 5;
 
 // The register after one bit, over the polynomial p.
 pub fn check_step(p: u16, r: u16, b: bool) -> u16
@@ -50,4 +60,158 @@ pub fn note_fits(n: usize) -> bool
     ensures { λ r. ⌜ r ≡ noteFits n ⌝ }
 {
     (n != 0) & (n <= LONGEST_NOTE)
+}
+
+// One bit of content, with the zero that it owes.
+fn put_bit(out: &mut [u8], p: Pen, b: bool) -> Pen
+    requires { ⌜ p .at + taken p (b ∷ []) ≤ length (now out) ⌝ }
+    ensures { λ r. ⌜ r ≡ moved p (b ∷ []) ⌝ }
+    ensures { λ r. ⌜ now (out .exit) ≡ laid (now (out .entry)) p (b ∷ []) ⌝ }
+{
+    let at = p.at;
+    let n = p.run;
+    if b {
+        out[at] = 1;
+        if n < 4 {
+            return Pen {
+                at: at + 1,
+                run: n + 1,
+            };
+        }
+        out[at + 1] = 0;
+        return Pen {
+            at: at + 2,
+            run: 0,
+        };
+    }
+    out[at] = 0;
+    Pen {
+        at: at + 1,
+        run: 0,
+    }
+}
+
+// A byte of content, low bit first.
+fn put_byte(out: &mut [u8], p: Pen, v: u8) -> Pen
+    requires { ⌜ p .at + taken p (lowBits 8 v) ≤ length (now out) ⌝ }
+    ensures { λ r. ⌜ r ≡ moved p (lowBits 8 v) ⌝ }
+    ensures { λ r. ⌜ now (out .exit) ≡ laid (now (out .entry)) p (lowBits 8 v) ⌝ }
+{
+    let mut q = p;
+    let mut rest = v;
+    let mut left: u8 = 8;
+    while 0 < left {
+        q = put_bit(out, q, rest % 2 == 1);
+        rest = rest / 2;
+        left = left - 1;
+    }
+    q
+}
+
+// The check, complemented, x^15 first.
+fn put_check(out: &mut [u8], p: Pen, r: u16) -> Pen
+    requires { ⌜ p .at + taken p (checkBits r) ≤ length (now out) ⌝ }
+    ensures { λ x. ⌜ x ≡ moved p (checkBits r) ⌝ }
+    ensures { λ x. ⌜ now (out .exit) ≡ laid (now (out .entry)) p (checkBits r) ⌝ }
+{
+    let mut q = p;
+    let mut rest = r ^ ONES;
+    let mut left: u8 = 16;
+    while 0 < left {
+        q = put_bit(out, q, rest / 32768 % 2 == 1);
+        rest = rest % 32768 * 2;
+        left = left - 1;
+    }
+    q
+}
+
+// The note's bytes, then their check.
+fn put_content(out: &mut [u8], p: Pen, note: &[u8]) -> Pen
+    requires { ⌜ p .at + taken p (contentOf (now note)) ≤ length (now out) ⌝ }
+    ensures { λ x. ⌜ x ≡ moved p (contentOf (now (note .entry))) ⌝ }
+    ensures { λ x. ⌜ now (out .exit) ≡ laid (now (out .entry)) p (contentOf (now (note .entry))) ⌝ }
+{
+    let mut q = p;
+    let mut r = ONES;
+    let mut i = 0;
+    while i < note.len() {
+        let v = note[i];
+        q = put_byte(out, q, v);
+        r = check_byte(SDLC, r, v);
+        i = i + 1;
+    }
+    put_check(out, q, r)
+}
+
+// A flag, into which no zero is inserted.
+fn put_flag(out: &mut [u8], at: usize)
+    requires { ⌜ at + 8 ≤ length (now out) ⌝ }
+    ensures { λ r. ⌜ now (out .exit) ≡ sets (now (out .entry)) at (cells flagBits) ⌝ }
+{
+    out[at] = 0;
+    out[at + 1] = 1;
+    out[at + 2] = 1;
+    out[at + 3] = 1;
+    out[at + 4] = 1;
+    out[at + 5] = 1;
+    out[at + 6] = 1;
+    out[at + 7] = 0;
+}
+
+// The frame from the start of what is lent; gives the zeros inserted.
+fn lay_frame(out: &mut [u8], note: &[u8]) -> usize
+    requires { ⌜ ticksOf (now note) ≤ length (now out) ⌝ }
+    ensures { λ r. ⌜ r ≡ zerosOf (now (note .entry)) ⌝ }
+    ensures { λ r. ⌜ now (out .exit) ≡ cells (frame (now (note .entry))) ++ drop (ticksOf (now (note .entry))) (now (out .entry)) ⌝ }
+{
+    put_flag(out, 0);
+    let q = put_content(out, Pen { at: 8, run: 0 }, note);
+    let end = q.at;
+    put_flag(out, end);
+    end - 8 - 8 * (note.len() + 2)
+}
+
+// The zeros inserted into a note of a length that fits: it is laid out first, in a buffer that holds the longest line.
+fn count(note: &[u8]) -> usize
+    requires { ⌜ length (now note) ≤ 2048 ⌝ }
+    ensures { λ r. ⌜ r ≡ zerosOf (now (note .entry)) ⌝ }
+{
+    let mut line = [0u8; LONGEST_LINE];
+    lay_frame(&mut line, note)
+}
+
+// How many zeros the note's frame has inserted.
+pub fn zeros_of(note: &[u8]) -> Counted
+    ensures { λ r. ⌜ r ≡ countOf (now (note .entry)) ⌝ }
+{
+    if note_fits(note.len()) {
+        return Counted::Zeros(count(note));
+    }
+    Counted::Refused(Refusal::NoteLength)
+}
+
+// The bytes from a place on; none if it is past the end.
+fn room_from(len: usize, at: usize) -> usize
+    ensures { λ r. ⌜ r ≡ len - at ⌝ }
+{
+    if len < at { 0 } else { len - at }
+}
+
+// The note's frame, one bit per byte, at a place inside the caller's buffer. Zeros are counted beforehand only where the room may be too small.
+pub fn write_line(note: &[u8], out: &mut [u8], at: usize) -> Counted
+    ensures { λ r. ⌜ r ≡ writeOf (now (note .entry)) (now (out .entry)) at ⌝ }
+    ensures { λ r. ⌜ now (out .exit) ≡ bufferAfter (writeOf (now (note .entry)) (now (out .entry)) at) (frame (now (note .entry))) (now (out .entry)) at ⌝ }
+{
+    let n = note.len();
+    if note_fits(n) {
+        let room = room_from(out.len(), at);
+        let content = 8 * (n + 2);
+        if room < content + 16 + content / 5 {
+            if room < content + 16 + count(note) {
+                return Counted::Refused(Refusal::NoRoom);
+            }
+        }
+        return Counted::Zeros(lay_frame(&mut out[at..], note));
+    }
+    Counted::Refused(Refusal::NoteLength)
 }
