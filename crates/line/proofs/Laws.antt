@@ -6,6 +6,8 @@ use mathlib.Core.List.{List, [], _∷_, _++_, append-nil, append-assoc}
 use native.Mathlib.Omega.{arith}
 use native.Mathlib.Nat.{add-zero, add-assoc, zero-add}
 use native.Mathlib.Numerals.{sub-one, add-one}
+use lib.Dec.{ltb}
+use borrow.Author.Tests.{ltb-false}
 use lib.ListN.{length, length-append, length-drop, set, take, drop, getD, drop-of-length-le}
 use lib.Seq.{sets, sets-eq, length-sets, drop-cons, take-length, drop-length, drop-drop}
 use Rattle.line.specs.declared.Pen.{Pen}
@@ -16,6 +18,7 @@ use Rattle.line.specs.Frame.{flagBits, noteBits, contentOf, frame, ticks
 use Rattle.line.specs.Pen.{taken, moved, laid}
 use Rattle.line.specs.Laws.Bits.{cells-join, cells-length}
 use Rattle.line.specs.Laws.Check.{check-join}
+use Rattle.line.specs.Laws.Frame.{ticks-are}
 use Rattle.line.specs.Laws.Insertion.{stuff-join, runOver-join}
 
 pub low-step : (n v : ℕ) → 0 < n → lowBits n v ≡ odd v ∷ lowBits (n - 1) (v / 2)
@@ -91,8 +94,8 @@ same-step {o = o} {q = q} xs ys s e f =
     record {
       pen = ap₂ penAt m (sym (runOver-join (q .run) xs ys)) ∙ s .pen;
       line = sym (ap (λ (l : List Bool). sets o (q .at) (cells l)) (stuff-join (q .run) xs ys)
-      ∙ cells-sets o (q .at) (stuff (q .run) xs) (stuff (runOver (q .run) xs) ys))
-      ∙ s .line;
+          ∙ cells-sets o (q .at) (stuff (q .run) xs) (stuff (runOver (q .run) xs) ys))
+          ∙ s .line;
       room = m ∙ s .room;
       size = length-sets o (q .at) (cells (stuff (q .run) xs)) ∙ s .size;
     }
@@ -133,3 +136,20 @@ frame-laid out note h =
     sym (cells-sets out 0 flagBits (inner ++ flagBits) ∙ cells-sets (sets out 0 (cells flagBits)) 8 inner flagBits)
     ∙ sets-eq (cells (frame note)) out 0 fits
     ∙ ap (λ (k : ℕ). cells (frame note) ++ drop k out) (zero-add (length (cells (frame note))) ∙ n)
+
+-- the whole buffer after a part from a place on has come back with n new cells at its start
+pub part-back : (old new : List ℕ) (n at : ℕ)
+    → take at old ++ ((new ++ drop n (take (length old - at) (drop at old))) ++ drop (length old - at) (drop at old))
+    ≡ take at old ++ (new ++ drop (at + n) old)
+part-back old new n at =
+    let e : length old - at ≡ length (drop at old) = sym (length-drop at old) in
+    simp (e, take-length, drop-length, append-nil, drop-drop)
+
+-- what it means that a test for too little room came out false
+pub room-there : (note out : List ℕ) (at room : ℕ) (b : Bool) → room ≡ length out - at → b ≡ ltb room (ticksOf note) → b ≡ false
+    → ticksOf note ≤ length out - at
+room-there note out at room b e f g = let h = ltb-false room (ticksOf note) (sym f ∙ g) in omega arith
+
+-- a line is never empty, so that a place with room for one is inside the buffer
+pub place-inside : (note out : List ℕ) (at : ℕ) → ticksOf note ≤ length out - at → at ≤ length out
+place-inside note out at h = omega (arith, ticks-are note)

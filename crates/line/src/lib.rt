@@ -1,10 +1,10 @@
 // The line: the check register, one note's frame laid out bit by bit, and the count of its inserted zeros. Assumes nothing.
 use common::Refusal;
-
 ghost use mathlib.Core.Path.{_≡_};
 ghost use mathlib.Core.List.{[], _∷_, _++_};
 ghost use Prim.Native.Nat.{_+_, _-_, _≤_};
 ghost use lib.ListN.{length, drop};
+ghost use lib.Dec.{ltb};
 ghost use lib.Seq.{sets};
 ghost use Rattle.line.specs.Bits.{lowBits, cells};
 ghost use Rattle.line.specs.Check.{checkStep, checkOver, checkBits};
@@ -30,6 +30,7 @@ pub const SDLC: u16 = 0x1021;
 pub const ONES: u16 = 0xFFFF;
 // The longest note that a frame carries, and the longest line of one: 8(n+2)+16 bits and a zero for each five of the 8(n+2).
 pub const LONGEST_NOTE: usize = 2048;
+
 pub const LONGEST_LINE: usize = 8 * (LONGEST_NOTE + 2) + 16 + 8 * (LONGEST_NOTE + 2) / 5;
 
 // The register after one bit, over the polynomial p.
@@ -79,16 +80,10 @@ fn put_bit(out: &mut [u8], p: Pen, b: bool) -> Pen
             };
         }
         out[at + 1] = 0;
-        return Pen {
-            at: at + 2,
-            run: 0,
-        };
+        return Pen { at: at + 2, run: 0 };
     }
     out[at] = 0;
-    Pen {
-        at: at + 1,
-        run: 0,
-    }
+    Pen { at: at + 1, run: 0 }
 }
 
 // A byte of content, low bit first.
@@ -171,12 +166,19 @@ fn lay_frame(out: &mut [u8], note: &[u8]) -> usize
     end - 8 - 8 * (note.len() + 2)
 }
 
-// The zeros inserted into a note of a length that fits: it is laid out first, in a buffer that holds the longest line.
+// A buffer that holds every line.
+fn blank_line() -> [u8; LONGEST_LINE]
+    ensures { λ r. ⌜ 19696 ≡ length r ⌝ }
+{
+    [0; LONGEST_LINE]
+}
+
+// The zeros inserted into a note of a length that fits: it is laid out first, in a buffer of its own.
 fn count(note: &[u8]) -> usize
     requires { ⌜ length (now note) ≤ 2048 ⌝ }
     ensures { λ r. ⌜ r ≡ zerosOf (now (note .entry)) ⌝ }
 {
-    let mut line = [0u8; LONGEST_LINE];
+    let mut line = blank_line();
     lay_frame(&mut line, note)
 }
 
@@ -197,19 +199,26 @@ fn room_from(len: usize, at: usize) -> usize
     if len < at { 0 } else { len - at }
 }
 
-// The note's frame, one bit per byte, at a place inside the caller's buffer. Zeros are counted beforehand only where the room may be too small.
+// Whether so many bytes are fewer than the line of a note of a length that fits. The zeros are counted only where they decide it.
+fn lacks_room(note: &[u8], room: usize) -> bool
+    requires { ⌜ length (now note) ≤ 2048 ⌝ }
+    ensures { λ r. ⌜ r ≡ ltb room (ticksOf (now (note .entry))) ⌝ }
+{
+    let content = 8 * (note.len() + 2);
+    if content + 16 + content / 5 <= room {
+        return false;
+    }
+    room < content + 16 + count(note)
+}
+
+// The note's frame, one bit per byte, at a place inside the caller's buffer.
 pub fn write_line(note: &[u8], out: &mut [u8], at: usize) -> Counted
     ensures { λ r. ⌜ r ≡ writeOf (now (note .entry)) (now (out .entry)) at ⌝ }
     ensures { λ r. ⌜ now (out .exit) ≡ bufferAfter (writeOf (now (note .entry)) (now (out .entry)) at) (frame (now (note .entry))) (now (out .entry)) at ⌝ }
 {
-    let n = note.len();
-    if note_fits(n) {
-        let room = room_from(out.len(), at);
-        let content = 8 * (n + 2);
-        if room < content + 16 + content / 5 {
-            if room < content + 16 + count(note) {
-                return Counted::Refused(Refusal::NoRoom);
-            }
+    if note_fits(note.len()) {
+        if lacks_room(note, room_from(out.len(), at)) {
+            return Counted::Refused(Refusal::NoRoom);
         }
         return Counted::Zeros(lay_frame(&mut out[at..], note));
     }

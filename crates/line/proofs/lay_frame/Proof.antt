@@ -56,9 +56,10 @@ returns : tie.Need-returns
 returns c =
     let note = now (c .before .before .before .before .before .before .before .before .before .before .before .before .before .before .args .note) in
     let end = ap (λ (p : Pen). p .at) (c .before .before .before .before .before .before .put-content .ensures .0) in
-    let out = now (c .before .before .before .before .before .before .before .before .before .before .before .before .before .before .args .out) in
-    (omega (arith, end, ticks-are note, stuff-length 0 (contentOf note), content-length note),
-    rw (c .before .before .put-flag2 .ensures, end, c .before .before .before .before .before .before .put-content .ensures .1, c .before .before .before .before .before .before .before .before .before .before .put-flag .ensures) (frame-laid out note (c .before .before .before .before .before .before .before .before .before .before .before .before .before .before .pre)))
+    let out = now (c .before .before .before .before .before .before .before .before .before .before .before .before .before .before .args .out) in (
+      omega (arith, end, ticks-are note, stuff-length 0 (contentOf note), content-length note),
+      rw (c .before .before .put-flag2 .ensures, end, c .before .before .before .before .before .before .put-content .ensures .1, c .before .before .before .before .before .before .before .before .before .before .put-flag .ensures) (frame-laid out note (c .before .before .before .before .before .before .before .before .before .before .before .before .before .before .pre)),
+    )
 
 pub lay-frame-spec : {M : Type 1} → statement M
 lay-frame-spec =

@@ -66,10 +66,12 @@ pub stuff-calm : (run : ℕ) (bs : List Bool) → run < 5 → Calm run (stuff ru
 unfolding stuff
 stuff-calm run [] h = h
 stuff-calm run (false ∷ bs) h = stuff-calm 0 bs (omega arith)
-stuff-calm run (true ∷ bs) h =
-    (h, ltb-elim (λ t. Calm (run + 1) (zeroIf (not t) ++ stuff (if t then run + 1 else 0) bs)) run 4
-    (λ l. stuff-calm (run + 1) bs (omega arith))
-    (λ l. stuff-calm 0 bs (omega arith)))
+stuff-calm run (true ∷ bs) h = (
+  h,
+  ltb-elim (λ t. Calm (run + 1) (zeroIf (not t) ++ stuff (if t then run + 1 else 0) bs)) run 4
+      (λ l. stuff-calm (run + 1) bs (omega arith))
+      (λ l. stuff-calm 0 bs (omega arith)),
+)
 
 calm-six : (run : ℕ) (xs ys : List Bool) → Calm run (xs ++ (replicate 6 true ++ ys)) → ⊥
 calm-six run [] ys c = omega arith
