@@ -102,3 +102,41 @@ count-notes n (note ∷ notes) = count-notes (n + 1) notes ∙ omega arith
 pub scanned-walk : (r : Reading) → scanned r ≡ walk (λ n note. n + 1) Notes Refused 0 r
 scanned-walk (whole notes) = ap Notes (sym (count-notes 0 notes ∙ zero-add (length notes)))
 scanned-walk (refuses k) = refl
+
+-- listOf and readList
+
+pub data AllFit : List (List ℕ) → Type 0 where
+  none : AllFit []
+  more : {note : List ℕ} {notes : List (List ℕ)} → noteFits (length note) ≡ true → AllFit notes → AllFit (note ∷ notes)
+
+-- what a reading from place i says of the list: the bytes from there on are its notes', and all of these fit
+abbrev ReadWell : List ℕ → Reading → Type 0
+ReadWell bytes (whole notes) = (notesBytes notes ≡ bytes) × AllFit notes
+ReadWell bytes (refuses k) = Unit
+
+below-at : (list : List ℕ) (i : ℕ) → Below 256 list → getD list i 0 < 256
+below-at [] i none = omega arith
+below-at (v ∷ vs) zero (more h b) = h
+below-at (v ∷ vs) (suc i) (more h b) = below-at vs i b
+
+-- a note's bytes: its two length bytes and its text, then what follows
+note-bytes : (list : List ℕ) (i : ℕ) → Below 256 list → i + lengthBytes + lengthAt list i ≤ length list
+    → drop i list ≡ lengthAt list i / 256 ∷ (lengthAt list i % 256 ∷ (textAt list i (lengthAt list i) ++ drop (i + lengthBytes + lengthAt list i) list))
+note-bytes list i b here = ?
+
+front-well : (list : List ℕ) (i : ℕ) (r : Reading) → Below 256 list → noteFits (lengthAt list i) ≡ true → i + lengthBytes + lengthAt list i ≤ length list
+    → ReadWell (drop (i + lengthBytes + lengthAt list i) list) r → ReadWell (drop i list) (inFront (textAt list i (lengthAt list i)) r)
+unfolding notesBytes
+front-well list i (whole notes) b fits here well =
+    let e = textAt-length list i (lengthAt list i) here in
+    (rw (e, well .0) (sym (note-bytes list i b here)), more (rw e fits) (well .1))
+front-well list i (refuses k) b fits here well = tt
+
+read-well : (most : ℕ) (list : List ℕ) (i : ℕ) → Below 256 list → length list ≤ i + most → ReadWell (drop i list) (readFrom most list i)
+unfolding readFrom notesBytes
+read-well zero list i b h = (sym (drop-of-length-le list {i = i} (omega arith)), none)
+read-well (suc most) list i b h =
+    head-elim (λ x. ReadWell (drop i list) (readHead list i x (λ k. readFrom most list (i + lengthBytes + k)))) list i
+    (λ past. (sym (drop-of-length-le list {i = i} past), none))
+    (λ k. tt)
+    (λ fits here. front-well list i (readFrom most list (i + lengthBytes + lengthAt list i)) b fits here (read-well most list (i + lengthBytes + lengthAt list i) b (omega arith)))
