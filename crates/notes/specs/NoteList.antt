@@ -1,6 +1,6 @@
 -- 01, Note list and line: what a list is, and how it is read. Assumes nothing.
 use mathlib.Core.Path.{_≡_}
-use mathlib.Core.Bool.{Bool, true, false, not}
+use mathlib.Core.Bool.{true, not}
 use mathlib.Core.List.{List, [], _∷_, _++_}
 use Prim.Native.Nat.{ℕ, zero, suc, _+_, _-_, _*_, _/_, _%_, _≤_}
 use lib.Dec.{eqb, ltb, leb}
@@ -18,12 +18,14 @@ use Rattle.notes.specs.declared.Scanned.the-variants.{Notes, Refused}
 abbrev pub version : ℕ
 version = 1
 
+-- the place of the first note, and the size of a length
 abbrev pub firstNote : ℕ
 firstNote = 1
 
 abbrev pub lengthBytes : ℕ
 lengthBytes = 2
 
+-- the list of these notes, and its bytes after the version byte
 unfoldable pub notesBytes : List (List ℕ) → List ℕ
 notesBytes [] = []
 notesBytes (note ∷ notes) = length note / 256 ∷ (length note % 256 ∷ (note ++ notesBytes notes))
@@ -82,7 +84,7 @@ unfoldable pub readFrom : ℕ → List ℕ → ℕ → Reading
 readFrom zero list i = whole []
 readFrom (suc most) list i = readHead list i (headOf list i) (λ k. readFrom most list (i + lengthBytes + k))
 
--- all notes from place i on: there are fewer than bytes
+-- all notes from place i on: a list has fewer notes than bytes
 unfoldable pub restFrom : List ℕ → ℕ → Reading
 restFrom list i = readFrom (length list) list i
 

@@ -1,7 +1,6 @@
 // The note list: what stands at a place of it, the text of a note as a part of the list, and the check of a whole list. Assumes nothing.
 use common::Refusal;
 use line::note_fits;
-
 ghost use mathlib.Core.Path.{_≡_};
 ghost use Prim.Native.Nat.{_<_};
 ghost use lib.ListN.{length};

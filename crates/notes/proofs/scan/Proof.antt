@@ -1,6 +1,6 @@
 -- `notes::scan` meets its contract: the count so far, carried over what is left of the list, is always the whole list's answer. Assumes nothing.
-use mathlib.Core.Path.{_≡_, refl, sym, _∙_}
-use Prim.Native.Nat.{ℕ, _+_, _-_, _≤_, _<_}
+use mathlib.Core.Path.{_≡_, sym, _∙_}
+use Prim.Native.Nat.{_+_, _-_, _≤_, _<_}
 use native.Mathlib.Omega.{arith}
 use lib.ListN.{length}
 use denote.Ref.{now}
@@ -8,14 +8,14 @@ use borrow.Author.Needs.{needs}
 use borrow.Author.Tests.{le-ltb, lt-ltb}
 use Rattle.notes.specs.declared.Scanned.the-variants.{Notes, Refused}
 use Rattle.notes.specs.NoteList.{restFrom, readList, scanned, firstNote, longestList}
-use Rattle.notes.specs.Laws.{walk, walk-end, walk-note, walk-bad, scanned-walk}
+use Rattle.notes.specs.Laws.Reading.{walk, oneMore, walk-end, walk-note, walk-bad, scanned-walk}
 use Rattle.notes.proofs.Branch.{tests}
 use Rattle.notes.proofs.scan.Statement.{statement}
 use Rattle.notes.proofs.scan.Tie as tie
 
 abbrev Inv-notes : tie.InvT-notes
 Inv-notes list i₀ n₀ i n =
-    (walk (λ m note. m + 1) Notes Refused n (restFrom list i) ≡ scanned (readList list)) × (n < i) × (i ≤ length list)
+    (walk oneMore Notes Refused n (restFrom list i) ≡ scanned (readList list)) × (n < i) × (i ≤ length list)
 
 abbrev μ-notes : tie.MeasureT-notes
 μ-notes list i₀ n₀ i n = length list - i
@@ -69,7 +69,7 @@ notes-again c =
     let list = now (c .before .before .before .before .before .before .before .before .before .before .args .list) in
     let w = rw (c .before .h .given .1) at (c .before .before .before .head-at .ensures .1) in
     let e = sym (c .before .before .before .head-at .ensures .0) ∙ c .before .h .given .1 in
-    (sym (walk-note (λ n note. n + 1) Notes Refused (l .n) list (l .i) _ e) ∙ l .inv .0, omega arith, omega arith)
+    (sym (walk-note oneMore Notes Refused (l .n) list (l .i) _ e) ∙ l .inv .0, omega arith, omega arith)
 
 enum-known-h-2 : tie.Need-enum-known-h-2 Inv-notes μ-notes
 enum-known-h-2 c = search needs
@@ -79,14 +79,14 @@ returns-4 c =
     let l = c .before .before .before .notes in
     let list = now (c .before .before .before .before .before .before .before .before .before .args .list) in
     let e = sym (c .before .before .head-at .ensures .0) ∙ c .enum-told .given .1 in
-    sym (walk-end (λ n note. n + 1) Notes Refused (l .n) list (l .i) e) ∙ l .inv .0
+    sym (walk-end oneMore Notes Refused (l .n) list (l .i) e) ∙ l .inv .0
 
 returns-5 : tie.Need-returns-5 Inv-notes μ-notes
 returns-5 c =
     let l = c .before .before .before .before .notes in
     let list = now (c .before .before .before .before .before .before .before .before .before .before .args .list) in
     let e = sym (c .before .before .before .head-at .ensures .0) ∙ c .before .h2 .given .1 in
-    sym (walk-bad (λ n note. n + 1) Notes Refused (l .n) list (l .i) _ e) ∙ l .inv .0
+    sym (walk-bad oneMore Notes Refused (l .n) list (l .i) _ e) ∙ l .inv .0
 
 pub scan-spec : {M : Type 1} → statement M
 scan-spec =
