@@ -5,20 +5,20 @@ use mathlib.Core.List.{List, [], _∷_, foldl}
 use Prim.Native.Nat.{ℕ, zero, suc, _+_, _-_, _≤_, _<_}
 use native.Mathlib.Omega.{arith}
 use native.Mathlib.Nat.{zero-add, add-zero}
-use lib.Dec.{ltb}
-use lib.ListN.{length, drop, length-drop}
+use lib.Dec.{eqb, ltb}
+use lib.ListN.{length, getD, drop, length-drop}
 use lib.Seq.{length-take-le}
 use borrow.Author.Tests.{le-leb, lt-leb, le-ltb}
 use Rattle.common.specs.Choice.{if_then_else_}
-use Rattle.common.specs.Tools.{lt-or, bool-or, ltb-elim}
+use Rattle.common.specs.Tools.{lt-or, bool-or, ltb-elim, if-elim}
 use Rattle.common.specs.declared.Refusal.{Refusal}
-use Rattle.common.specs.declared.Refusal.the-variants.{NoteLength, CutList}
+use Rattle.common.specs.declared.Refusal.the-variants.{NoList, NoteLength, CutList, LongList}
 use Rattle.line.specs.Line.{noteFits}
 use Rattle.notes.specs.declared.Head.{Head}
 use Rattle.notes.specs.declared.Head.the-variants.{End, Note, Bad}
 use Rattle.notes.specs.declared.Scanned.the-variants.{Notes, Refused}
-use Rattle.notes.specs.NoteList.{lengthBytes, lengthAt, textAt, headOf, Within}
-use Rattle.notes.specs.NoteList.{Reading, whole, refuses, inFront, readHead, readFrom, restFrom, scanned}
+use Rattle.notes.specs.NoteList.{version, firstNote, lengthBytes, longestList, lengthAt, textAt, headOf, Within, noteAt}
+use Rattle.notes.specs.NoteList.{Reading, whole, refuses, inFront, readHead, readFrom, restFrom, readList, scanned}
 
 -- headOf
 
@@ -57,6 +57,9 @@ head-note list i fits here =
 pub textAt-length : (list : List ℕ) (i k : ℕ) → i + lengthBytes + k ≤ length list → length (textAt list i k) ≡ k
 textAt-length list i k h = length-take-le k (drop (i + lengthBytes) list) (omega (arith, length-drop (i + lengthBytes) list))
 
+pub noteAt-note : (list : List ℕ) (i k : ℕ) → headOf list i ≡ Note k → noteAt list i ≡ textAt list i k
+noteAt-note list i k e = rw e
+
 -- restFrom
 
 read-more : (most : ℕ) (list : List ℕ) (i : ℕ) → length list ≤ i + most → readFrom (suc most) list i ≡ readFrom most list i
@@ -80,6 +83,20 @@ rest-note list i k e = rw (rest-head list i, e)
 
 pub rest-bad : (list : List ℕ) (i : ℕ) (k : Refusal) → headOf list i ≡ Bad k → restFrom list i ≡ refuses k
 rest-bad list i k e = rw (rest-head list i, e)
+
+-- a list of which the scan gave the number of notes is read from its first note on
+pub scanned-rest : (list : List ℕ) (n : ℕ) → scanned (readList list) ≡ Notes n → readList list ≡ restFrom list firstNote
+unfolding readList
+scanned-rest list n =
+    if-elim Here (ltb longestList (length list)) (refused LongList)
+    (if-elim Here (eqb (length list) 0) (refused NoList)
+    (if-elim Here (not (eqb (getD list 0 0) version)) (refused NoList) (λ e. refl)))
+  where
+    Here : Reading → Type 0
+    Here r = scanned r ≡ Notes n → r ≡ restFrom list firstNote
+
+    refused : (k : Refusal) → Here (refuses k)
+    refused k e = let z : _≡_ {A = ℕ} 0 1 = cc in absurd (omega arith)
 
 -- walk
 
