@@ -1,7 +1,7 @@
 -- 01, Note list and line: what a list is, and how it is read. Assumes nothing.
 use mathlib.Core.Path.{_≡_}
 use mathlib.Core.Bool.{true, not}
-use mathlib.Core.List.{List, [], _∷_, _++_}
+use mathlib.Core.List.{List, [], _∷_, _++_, foldl}
 use Prim.Native.Nat.{ℕ, zero, suc, _+_, _-_, _*_, _/_, _%_, _≤_}
 use lib.Dec.{eqb, ltb, leb}
 use lib.ListN.{length, getD, take, drop}
@@ -104,3 +104,8 @@ readList list =
 abbrev pub scanned : Reading → Scanned
 scanned (whole notes) = Notes (length notes)
 scanned (refuses k) = Refused k
+
+-- a walk over what was read: a step with each note in its turn, then the finish; or the refusal
+abbrev pub walk : {S A : Type 0} → (S → List ℕ → S) → (S → A) → (Refusal → A) → S → Reading → A
+walk step finish refused s (whole notes) = finish (foldl step s notes)
+walk step finish refused s (refuses k) = refused k

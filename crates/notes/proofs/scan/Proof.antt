@@ -7,8 +7,8 @@ use denote.Ref.{now}
 use borrow.Author.Needs.{needs}
 use borrow.Author.Tests.{le-ltb, lt-ltb}
 use Rattle.notes.specs.declared.Scanned.the-variants.{Notes, Refused}
-use Rattle.notes.specs.NoteList.{restFrom, readList, scanned, firstNote, longestList}
-use Rattle.notes.specs.Laws.Reading.{walk, oneMore, walk-end, walk-note, walk-bad, scanned-walk}
+use Rattle.notes.specs.NoteList.{restFrom, readList, scanned, walk, firstNote, longestList}
+use Rattle.notes.specs.Laws.Reading.{oneMore, walk-end, walk-note, walk-bad, scanned-walk}
 use Rattle.notes.proofs.Branch.{tests}
 use Rattle.notes.proofs.scan.Statement.{statement}
 use Rattle.notes.proofs.scan.Tie as tie

@@ -8,7 +8,7 @@ use native.Mathlib.Nat.{zero-add, add-zero}
 use lib.Dec.{eqb, ltb}
 use lib.ListN.{length, getD, drop, length-drop}
 use lib.Seq.{length-take-le}
-use borrow.Author.Tests.{le-leb, lt-leb, le-ltb}
+use borrow.Author.Tests.{le-leb, lt-leb, le-ltb, lt-ltb}
 use Rattle.common.specs.Choice.{if_then_else_}
 use Rattle.common.specs.Tools.{lt-or, bool-or, ltb-elim, if-elim}
 use Rattle.common.specs.declared.Refusal.{Refusal}
@@ -18,7 +18,7 @@ use Rattle.notes.specs.declared.Head.{Head}
 use Rattle.notes.specs.declared.Head.the-variants.{End, Note, Bad}
 use Rattle.notes.specs.declared.Scanned.the-variants.{Notes, Refused}
 use Rattle.notes.specs.NoteList.{version, firstNote, lengthBytes, longestList, lengthAt, textAt, headOf, Within, noteAt}
-use Rattle.notes.specs.NoteList.{Reading, whole, refuses, inFront, readHead, readFrom, restFrom, readList, scanned}
+use Rattle.notes.specs.NoteList.{Reading, whole, refuses, inFront, readHead, readFrom, restFrom, readList, scanned, walk}
 
 -- headOf
 
@@ -84,6 +84,19 @@ rest-note list i k e = rw (rest-head list i, e)
 pub rest-bad : (list : List ℕ) (i : ℕ) (k : Refusal) → headOf list i ≡ Bad k → restFrom list i ≡ refuses k
 rest-bad list i k e = rw (rest-head list i, e)
 
+-- the scan's answer
+
+apart : {A : Type 0} (k : Refusal) (n : ℕ) → Refused k ≡ Notes n → A
+apart k n e = let z : _≡_ {A = ℕ} 0 1 = cc in absurd (omega arith)
+
+-- what the scan refused is refused
+pub scanned-refuses : (list : List ℕ) (k : Refusal) → scanned (readList list) ≡ Refused k → readList list ≡ refuses k
+scanned-refuses list k = same (readList list)
+  where
+    same : (r : Reading) → scanned r ≡ Refused k → r ≡ refuses k
+    same (whole notes) e = apart k (length notes) (sym e)
+    same (refuses j) e = cc
+
 -- a list of which the scan gave the number of notes is read from its first note on
 pub scanned-rest : (list : List ℕ) (n : ℕ) → scanned (readList list) ≡ Notes n → readList list ≡ restFrom list firstNote
 unfolding readList
@@ -96,15 +109,19 @@ scanned-rest list n =
     Here r = scanned r ≡ Notes n → r ≡ restFrom list firstNote
 
     refused : (k : Refusal) → Here (refuses k)
-    refused k e = let z : _≡_ {A = ℕ} 0 1 = cc in absurd (omega arith)
+    refused k e = apart k n e
+
+pub scanned-size : (list : List ℕ) (n : ℕ) → scanned (readList list) ≡ Notes n → length list ≤ longestList
+unfolding readList
+scanned-size list n e =
+    lt-or longestList (length list)
+    (λ long. apart LongList n (rw (lt-ltb longestList (length list) long) at e))
+    (λ short. short)
 
 -- walk
 
--- a walk over the notes: a step with each note in its turn, then the finish; or the refusal. A loop that goes from note to note with a state has
--- the invariant that its state, walked over the rest of the list, gives what the first state gave over the whole.
-abbrev pub walk : {S A : Type 0} → (S → List ℕ → S) → (S → A) → (Refusal → A) → S → Reading → A
-walk step finish refused s (whole notes) = finish (foldl step s notes)
-walk step finish refused s (refuses k) = refused k
+-- A loop that goes from note to note with a state has the invariant that its state, walked over the rest of the list, gives what its first state
+-- gave over the whole. It starts by scanned-rest; these are its turn and its ends.
 
 module _ {S A : Type 0} (step : S → List ℕ → S) (finish : S → A) (refused : Refusal → A) where
   walk-front : (s : S) (note : List ℕ) (r : Reading) → walk step finish refused s (inFront note r) ≡ walk step finish refused (step s note) r
