@@ -7,19 +7,20 @@ use native.Mathlib.Omega.{arith}
 use native.Mathlib.Nat.{add-zero, add-assoc, zero-add}
 use native.Mathlib.Numerals.{sub-one, add-one}
 use lib.Dec.{ltb}
-use borrow.Author.Tests.{ltb-false}
+use borrow.Author.Tests.{ltb-false, le-ltb, lt-ltb, eq-eqb, ne-eqb}
+use lib.Bits.{bitXor}
 use lib.ListN.{length, length-append, length-drop, set, take, drop, getD, drop-of-length-le}
 use lib.Seq.{sets, sets-eq, length-sets, drop-cons, take-length, drop-length, drop-drop}
 use Rattle.line.specs.declared.Pen.{Pen}
-use Rattle.line.specs.Bits.{odd, lowBits, textBits, cells}
-use Rattle.line.specs.Check.{top, shifted, topBits, checkOver, checkBits, complement, sdlc, ones}
-use Rattle.line.specs.Insertion.{stuff, runOver}
+use Rattle.line.specs.Bits.{odd, lowBits, textBits, oneIf, cells}
+use Rattle.line.specs.Check.{top, shifted, checkStep, topBits, checkOver, checkBits, complement, sdlc, ones}
+use Rattle.line.specs.Insertion.{owes, runAfter, seen, stuff, runOver}
 use Rattle.line.specs.Frame.{flagBits, noteBits, contentOf, frame, ticksOf}
 use Rattle.line.specs.Pen.{taken, moved, laid}
 use Rattle.line.specs.Laws.Bits.{cells-join, cells-length}
-use Rattle.line.specs.Laws.Check.{check-join}
+use Rattle.line.specs.Laws.Check.{check-join, step-enters}
 use Rattle.line.specs.Laws.Frame.{ticks-are}
-use Rattle.line.specs.Laws.Insertion.{stuff-join, runOver-join}
+use Rattle.line.specs.Laws.Insertion.{stuff-join, runOver-join, runOver-lt}
 
 pub low-step : (n v : ℕ) → 0 < n → lowBits n v ≡ odd v ∷ lowBits (n - 1) (v / 2)
 unfolding lowBits
@@ -40,6 +41,30 @@ pub top-none : (n v : ℕ) → n ≤ 0 → topBits n v ≡ []
 unfolding topBits
 top-none zero v h = refl
 top-none (suc n) v h = absurd (omega arith)
+
+-- a step by a bit that entered at x^15, as that place then reads
+pub step-one : (p r : ℕ) (b : Bool) (x : ℕ) → x ≡ bitXor r (oneIf b * 32768) → x / 32768 % 2 ≡ 1 → bitXor (shifted x) p ≡ checkStep p r b
+unfolding checkStep
+step-one p r b x e f =
+    let t = eq-eqb (x / 32768 % 2) 1 f in
+    let z : checkStep p x false ≡ bitXor (shifted x) p = rw t in
+    sym z ∙ ap (λ (y : ℕ). checkStep p y false) e ∙ step-enters p r b
+
+pub step-zero : (p r : ℕ) (b : Bool) (x : ℕ) → x ≡ bitXor r (oneIf b * 32768) → (x / 32768 % 2 ≡ 1 → ⊥) → shifted x ≡ checkStep p r b
+unfolding checkStep
+step-zero p r b x e f =
+    let t = ne-eqb (x / 32768 % 2) 1 f in
+    let z : checkStep p x false ≡ shifted x = rw t in
+    sym z ∙ ap (λ (y : ℕ). checkStep p y false) e ∙ step-enters p r b
+
+-- a run below five that this bit makes five owes a zero and starts again; any other goes on as it is counted
+pub fifth-owes : (run : ℕ) (b : Bool) → run < 5 → seen run b ≡ 5 → (owes run b ≡ true) × (runAfter run b ≡ 0)
+fifth-owes run true h e = let f = le-ltb run 4 (omega arith) in rw f (refl, refl)
+fifth-owes run false h e = absurd (omega arith)
+
+pub other-runs-on : (run : ℕ) (b : Bool) → run < 5 → (seen run b ≡ 5 → ⊥) → (owes run b ≡ false) × (runAfter run b ≡ seen run b)
+other-runs-on run true h n = let f = lt-ltb run 4 (omega arith) in rw f (refl, refl)
+other-runs-on run false h n = (refl, refl)
 
 -- a text from place i on, then its check over a register that the part before i has left
 abbrev pub rest : List ℕ → ℕ → ℕ → List Bool
@@ -80,9 +105,10 @@ pub record Same (out : List ℕ) (p : Pen) (bits : List Bool) (out' : List ℕ) 
   pub line : laid out' q bits' ≡ laid out p bits
   pub room : q .at + taken q bits' ≡ p .at + taken p bits
   pub size : length out' ≡ length out
+  pub low : q .run < 5
 
-pub same-start : {out : List ℕ} {p : Pen} {bits : List Bool} → Same out p bits out p bits
-same-start = record { pen = refl; line = refl; room = refl; size = refl }
+pub same-start : {out : List ℕ} {p : Pen} {bits : List Bool} → p .run < 5 → Same out p bits out p bits
+same-start h = record { pen = refl; line = refl; room = refl; size = refl; low = h }
 
 -- the first of two parts has been laid
 pub same-step : {out o o' : List ℕ} {p q q' : Pen} {bits : List Bool} (xs ys : List Bool) → Same out p bits o q (xs ++ ys)
@@ -98,6 +124,7 @@ same-step {o = o} {q = q} xs ys s e f =
           ∙ s .line;
       room = m ∙ s .room;
       size = length-sets o (q .at) (cells (stuff (q .run) xs)) ∙ s .size;
+      low = runOver-lt (q .run) xs (s .low);
     }
 
 -- nothing is left
@@ -107,8 +134,8 @@ same-done {q = q} s = (ap (λ (n : ℕ). penAt n (q .run)) (sym (add-zero (q .at
 
 -- there is room for the first of two parts where there was room for all
 pub same-fits : {out o : List ℕ} {p q : Pen} {bits : List Bool} (xs ys : List Bool) → Same out p bits o q (xs ++ ys)
-    → p .at + taken p bits ≤ length out → q .at + taken q xs ≤ length o
-same-fits {q = q} xs ys s h = let n = taken-join q xs ys in omega (arith, s .room, s .size)
+    → p .at + taken p bits ≤ length out → (q .run < 5) × (q .at + taken q xs ≤ length o)
+same-fits {q = q} xs ys s h = let n = taken-join q xs ys in (s .low, omega (arith, s .room, s .size))
 
 -- the flag's eight stores
 pub flag-stores : (l : List ℕ) (at : ℕ)

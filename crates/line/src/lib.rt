@@ -2,13 +2,14 @@
 use common::Refusal;
 ghost use mathlib.Core.Path.{_≡_};
 ghost use mathlib.Core.List.{[], _∷_, _++_};
-ghost use Prim.Native.Nat.{_+_, _-_, _≤_};
+ghost use Prim.Native.Nat.{_+_, _-_, _*_, _≤_, _<_};
 ghost use lib.ListN.{length, drop};
 ghost use lib.Dec.{ltb};
 ghost use lib.Seq.{sets};
-ghost use Rattle.line.specs.Bits.{lowBits, cells};
+ghost use Rattle.line.specs.Bits.{lowBits, oneIf, cells};
 ghost use Rattle.line.specs.Check.{checkStep, checkOver, checkBits};
 ghost use Rattle.line.specs.Frame.{flagBits, contentOf, frame, zerosOf, ticksOf};
+ghost use Rattle.line.specs.Insertion.{seen};
 ghost use Rattle.line.specs.Line.{noteFits, countOf, writeOf, bufferAfter};
 ghost use Rattle.line.specs.Pen.{taken, moved, laid};
 
@@ -33,12 +34,20 @@ pub const LONGEST_NOTE: usize = 2048;
 
 pub const LONGEST_LINE: usize = 8 * (LONGEST_NOTE + 2) + 16 + 8 * (LONGEST_NOTE + 2) / 5;
 
-// The register after one bit, over the polynomial p.
+// A bit at the place of x^15.
+fn at_the_top(b: bool) -> u16
+    ensures { λ x. ⌜ x ≡ oneIf b * 32768 ⌝ }
+{
+    if b { 32768 } else { 0 }
+}
+
+// The register after one bit, over the polynomial p. The bit enters at x^15.
 pub fn check_step(p: u16, r: u16, b: bool) -> u16
     ensures { λ x. ⌜ x ≡ checkStep p r b ⌝ }
 {
-    let s = r % 32768 * 2;
-    if (r / 32768 % 2 == 1) != b { s ^ p } else { s }
+    let x = r ^ at_the_top(b);
+    let s = x % 32768 * 2;
+    if x / 32768 % 2 == 1 { s ^ p } else { s }
 }
 
 // The register after the eight bits of a byte, low bit first.
@@ -63,31 +72,45 @@ pub fn note_fits(n: usize) -> bool
     (n != 0) & (n <= LONGEST_NOTE)
 }
 
+// A bit as the byte that stands for it.
+fn cell(b: bool) -> u8
+    ensures { λ r. ⌜ r ≡ oneIf b ⌝ }
+{
+    if b { 1 } else { 0 }
+}
+
+// The ones in a row up to this bit.
+fn ones_with(run: u8, b: bool) -> u8
+    requires { ⌜ run < 5 ⌝ }
+    ensures { λ r. ⌜ r ≡ seen run b ⌝ }
+{
+    if b { run + 1 } else { 0 }
+}
+
 // One bit of content, with the zero that it owes.
 fn put_bit(out: &mut [u8], p: Pen, b: bool) -> Pen
+    requires { ⌜ p .run < 5 ⌝ }
     requires { ⌜ p .at + taken p (b ∷ []) ≤ length (now out) ⌝ }
     ensures { λ r. ⌜ r ≡ moved p (b ∷ []) ⌝ }
     ensures { λ r. ⌜ now (out .exit) ≡ laid (now (out .entry)) p (b ∷ []) ⌝ }
 {
     let at = p.at;
-    let n = p.run;
-    if b {
-        out[at] = 1;
-        if n < 4 {
-            return Pen {
-                at: at + 1,
-                run: n + 1,
-            };
-        }
-        out[at + 1] = 0;
-        return Pen { at: at + 2, run: 0 };
+    let run = ones_with(p.run, b);
+    out[at] = cell(b);
+    let next = at + 1;
+    if run == 5 {
+        out[next] = 0;
+        return Pen {
+            at: next + 1,
+            run: 0,
+        };
     }
-    out[at] = 0;
-    Pen { at: at + 1, run: 0 }
+    Pen { at: next, run }
 }
 
 // A byte of content, low bit first.
 fn put_byte(out: &mut [u8], p: Pen, v: u8) -> Pen
+    requires { ⌜ p .run < 5 ⌝ }
     requires { ⌜ p .at + taken p (lowBits 8 v) ≤ length (now out) ⌝ }
     ensures { λ r. ⌜ r ≡ moved p (lowBits 8 v) ⌝ }
     ensures { λ r. ⌜ now (out .exit) ≡ laid (now (out .entry)) p (lowBits 8 v) ⌝ }
@@ -105,6 +128,7 @@ fn put_byte(out: &mut [u8], p: Pen, v: u8) -> Pen
 
 // The check, complemented, x^15 first.
 fn put_check(out: &mut [u8], p: Pen, r: u16) -> Pen
+    requires { ⌜ p .run < 5 ⌝ }
     requires { ⌜ p .at + taken p (checkBits r) ≤ length (now out) ⌝ }
     ensures { λ x. ⌜ x ≡ moved p (checkBits r) ⌝ }
     ensures { λ x. ⌜ now (out .exit) ≡ laid (now (out .entry)) p (checkBits r) ⌝ }
@@ -122,6 +146,7 @@ fn put_check(out: &mut [u8], p: Pen, r: u16) -> Pen
 
 // The note's bytes, then their check.
 fn put_content(out: &mut [u8], p: Pen, note: &[u8]) -> Pen
+    requires { ⌜ p .run < 5 ⌝ }
     requires { ⌜ p .at + taken p (contentOf (now note)) ≤ length (now out) ⌝ }
     ensures { λ x. ⌜ x ≡ moved p (contentOf (now (note .entry))) ⌝ }
     ensures { λ x. ⌜ now (out .exit) ≡ laid (now (out .entry)) p (contentOf (now (note .entry))) ⌝ }

@@ -20,7 +20,7 @@ put-flag-requires c κs = search needs
 put-content-requires : tie.Need-put-content-requires
 put-content-requires c κs =
     let note = now (c .before .before .before .before .before .before .before .args .note) in
-    omega (arith, c .before .before .before .put-flag .kept .0, ticks-are note, stuff-length 0 (contentOf note), content-length note)
+    (omega arith, omega (arith, c .before .before .before .put-flag .kept .0, ticks-are note, stuff-length 0 (contentOf note), content-length note))
 
 put-flag-requires-2 : tie.Need-put-flag-requires-2
 put-flag-requires-2 c κs =

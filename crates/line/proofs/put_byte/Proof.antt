@@ -15,13 +15,13 @@ abbrev μ-loop : tie.MeasureT-loop
 μ-loop out₀ v q₀ rest₀ left₀ out q rest left = left
 
 loop-holds : tie.Need-loop-holds Inv-loop μ-loop
-loop-holds c = same-start
+loop-holds c = same-start (c .before .pre .0)
 
 put-bit-requires : tie.Need-put-bit-requires Inv-loop μ-loop
 put-bit-requires c κs =
     let l = c .before .before .loop in
     let s = rw (low-step (l .left) (l .rest) (c .before .loop-test .taken)) at (l .inv) in
-    same-fits (odd (l .rest) ∷ []) (lowBits (l .left - 1) (l .rest / 2)) s (c .before .before .before .before .pre)
+    same-fits (odd (l .rest) ∷ []) (lowBits (l .left - 1) (l .rest / 2)) s (c .before .before .before .before .pre .1)
 
 sub-left : tie.Need-sub-left Inv-loop μ-loop
 sub-left c = omega arith

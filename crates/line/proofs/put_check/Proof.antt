@@ -15,14 +15,14 @@ abbrev μ-loop : tie.MeasureT-loop
 μ-loop out₀ r q₀ rest₀ left₀ out q rest left = left
 
 loop-holds : tie.Need-loop-holds Inv-loop μ-loop
-loop-holds c = same-start
+loop-holds c = same-start (c .before .pre .0)
 
 put-bit-requires : tie.Need-put-bit-requires Inv-loop μ-loop
 unfolding checkBits
 put-bit-requires c κs =
     let l = c .before .before .loop in
     let s = rw (top-step (l .left) (l .rest) (c .before .loop-test .taken)) at (l .inv) in
-    same-fits (top (l .rest) ∷ []) (topBits (l .left - 1) (shifted (l .rest))) s (c .before .before .before .before .pre)
+    same-fits (top (l .rest) ∷ []) (topBits (l .left - 1) (shifted (l .rest))) s (c .before .before .before .before .pre .1)
 
 mul-rest : tie.Need-mul-rest Inv-loop μ-loop
 mul-rest c = omega arith

@@ -21,7 +21,7 @@ abbrev μ-loop : tie.MeasureT-loop
 μ-loop out₀ note q₀ r₀ i₀ out q r i = length note - i
 
 loop-holds : tie.Need-loop-holds Inv-loop μ-loop
-loop-holds c = same-start
+loop-holds c = same-start (c .before .before .pre .0)
 
 shared-slice-read-v : tie.Need-shared-slice-read-v Inv-loop μ-loop
 shared-slice-read-v c = omega arith
@@ -32,7 +32,7 @@ put-byte-requires c κs =
     let note = now (c .before .before .before .before .before .before .args .note) in
     let v = getD note (l .i) 0 in
     let s = rw (rest-step note (l .i) (l .r) (c .before .before .loop-test .taken)) at (l .inv) in
-    same-fits (lowBits 8 v) (rest note (l .i + 1) (checkOver sdlc (l .r) (lowBits 8 v))) s (c .before .before .before .before .before .before .pre)
+    same-fits (lowBits 8 v) (rest note (l .i + 1) (checkOver sdlc (l .r) (lowBits 8 v))) s (c .before .before .before .before .before .before .pre .1)
 
 check-byte-requires : tie.Need-check-byte-requires Inv-loop μ-loop
 check-byte-requires c κs = search needs
@@ -59,7 +59,7 @@ put-check-requires c κs =
     let l = c .before .before .loop in
     let note = now (c .before .before .before .before .before .args .note) in
     let s = rw (rest-none note (l .i) (l .r) (c .before .loop-test .left), ← append-nil (checkBits (l .r))) at (l .inv) in
-    same-fits (checkBits (l .r)) [] s (c .before .before .before .before .before .pre)
+    same-fits (checkBits (l .r)) [] s (c .before .before .before .before .before .pre .1)
 
 same-length : tie.Need-same-length Inv-loop μ-loop
 same-length c = search needs
