@@ -4,3 +4,4 @@ pub mod Xor
 pub mod Check
 pub mod Insertion
 pub mod Frame
+pub mod Line

@@ -3,4 +3,5 @@ pub mod Check
 pub mod Insertion
 pub mod Frame
 pub mod Line
+pub mod Pen
 pub mod Laws

@@ -1,24 +1,22 @@
-use Rattle.line.proofs.Branch.{tests}
-use Rattle.line.specs.Check.{checkStep}
+-- `line::check_step` meets its contract: the bit enters at x^15, and that place decides. Assumes nothing.
+use mathlib.Core.Path.{ap}
+use lib.Bits.{bitXor}
+use Rattle.line.proofs.Laws.{step-one, step-zero}
 use borrow.Author.Needs.{needs}
 use Rattle.line.proofs.check_step.Statement.{statement}
 use Rattle.line.proofs.check_step.Tie as tie
-use Rattle.line.proofs.check_step.Reads as reads
-use Rattle.line.proofs.check_step.Lts as lts
 
--- src/lib.rt:29:13
+at-the-top-requires : tie.Need-at-the-top-requires
+at-the-top-requires c κs = search needs
+
 mul-s : tie.Need-mul-s
 mul-s c = search needs
 
--- src/lib.rt:26:1
 returns : tie.Need-returns
-unfolding checkStep
-returns c = simp (tests, c .if1 .taken)
+returns c = let a = c .before .before .args in step-one (a .p) (a .r) (a .b) _ (ap (bitXor (a .r)) (c .before .at-the-top .ensures)) (c .if1 .taken)
 
--- src/lib.rt:26:1
 returns-2 : tie.Need-returns-2
-unfolding checkStep
-returns-2 c = simp (tests, c .if1 .left)
+returns-2 c = let a = c .before .before .args in step-zero (a .p) (a .r) (a .b) _ (ap (bitXor (a .r)) (c .before .at-the-top .ensures)) (c .if1 .left)
 
 pub check-step-spec : {M : Type 1} → statement M
-check-step-spec = tie.close (tie.spec mul-s returns returns-2)
+check-step-spec = tie.close (tie.spec at-the-top-requires mul-s returns returns-2)

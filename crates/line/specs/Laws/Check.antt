@@ -11,6 +11,7 @@ use lib.Bits.{bitXor, xor-comm, xor-self, xor-zero-l, xor-zero-r, xor-lt}
 use lib.ListN.{length, replicate}
 use Rattle.common.specs.Choice.{if_then_else_}
 use Rattle.common.specs.Tools.{if-elim}
+use Rattle.line.specs.Bits.{oneIf}
 use Rattle.line.specs.Check.{sdlc, ones, top, shifted, differs, checkStep, checkOver, topBits, complement, checkBits, remainder}
 use Rattle.line.specs.Laws.Xor.{xor-assoc, xor-left-comm, top-xor, shifted-xor, differs-self, differs-four}
 
@@ -63,6 +64,18 @@ module _ (p : ℕ) where
   step-xor r s b c =
       rw (top-xor r s, shifted-xor r s, differs-four (top r) (top s) b c)
       (mix-xor p (differs (top r) b) (differs (top s) c) (shifted r) (shifted s))
+
+  -- a bit enters at x^15: the step by it is the step by 0 from the register with that place turned over
+  pub step-enters : (r : ℕ) (b : Bool) → checkStep p (bitXor r (oneIf b * 32768)) false ≡ checkStep p r b
+  step-enters r b =
+      ap (λ (c : Bool). checkStep p (bitXor r (oneIf b * 32768)) c) (sym (differs-self b))
+      ∙ step-xor r (oneIf b * 32768) b b
+      ∙ ap (bitXor (checkStep p r b)) (gone b)
+      ∙ xor-zero-r (checkStep p r b)
+    where
+      gone : (b : Bool) → checkStep p (oneIf b * 32768) b ≡ 0
+      gone true = unfold checkStep in refl
+      gone false = unfold checkStep in refl
 
   -- two registers over the same text differ by their difference over zeros
   pub check-linear : (r s : ℕ) (bs : List Bool) → bitXor (checkOver p r bs) (checkOver p s bs) ≡ checkOver p (bitXor r s) (replicate (length bs) false)

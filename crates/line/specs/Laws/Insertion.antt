@@ -34,6 +34,16 @@ stuff-length run [] = refl
 stuff-length run (b ∷ bs) =
     omega (arith, length-append (zeroIf (owes run b)) (stuff (runAfter run b) bs), stuff-length (runAfter run b) bs, zeroIf-length (owes run b))
 
+-- a run that a history made stays below five
+pub runOver-lt : (run : ℕ) (bs : List Bool) → run < 5 → runOver run bs < 5
+unfolding runOver
+runOver-lt run [] h = h
+runOver-lt run (false ∷ bs) h = runOver-lt 0 bs (omega arith)
+runOver-lt run (true ∷ bs) h =
+    ltb-elim (λ t. runOver (if t then run + 1 else 0) bs < 5) run 4
+    (λ l. runOver-lt (run + 1) bs (omega arith))
+    (λ l. runOver-lt 0 bs (omega arith))
+
 -- five bits for each inserted zero
 pub zeros-bound : (run : ℕ) (bs : List Bool) → 5 * zeros run bs ≤ run + length bs
 unfolding zeros
@@ -66,10 +76,12 @@ pub stuff-calm : (run : ℕ) (bs : List Bool) → run < 5 → Calm run (stuff ru
 unfolding stuff
 stuff-calm run [] h = h
 stuff-calm run (false ∷ bs) h = stuff-calm 0 bs (omega arith)
-stuff-calm run (true ∷ bs) h =
-    (h, ltb-elim (λ t. Calm (run + 1) (zeroIf (not t) ++ stuff (if t then run + 1 else 0) bs)) run 4
-    (λ l. stuff-calm (run + 1) bs (omega arith))
-    (λ l. stuff-calm 0 bs (omega arith)))
+stuff-calm run (true ∷ bs) h = (
+  h,
+  ltb-elim (λ t. Calm (run + 1) (zeroIf (not t) ++ stuff (if t then run + 1 else 0) bs)) run 4
+      (λ l. stuff-calm (run + 1) bs (omega arith))
+      (λ l. stuff-calm 0 bs (omega arith)),
+)
 
 calm-six : (run : ℕ) (xs ys : List Bool) → Calm run (xs ++ (replicate 6 true ++ ys)) → ⊥
 calm-six run [] ys c = omega arith

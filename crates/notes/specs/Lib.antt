@@ -1,0 +1,2 @@
+pub mod NoteList
+pub mod Laws
