@@ -40,22 +40,10 @@ fromLow-above (suc n) v xs =
     let high : fromLow xs * 2 ^ suc n ≡ fromLow xs * 2 ^ n * 2 = ap (λ (x : ℕ). fromLow xs * x) (pow-suc 2 n) ∙ sym (mul-assoc (fromLow xs) (2 ^ n) 2) in
     ap₂ (λ (x y : ℕ). x * 2 + y) (fromLow-above n (v / 2) xs) (odd-is v) ∙ omega (arith, low, high)
 
--- the bounds of a character's parts
-pub bitsSent-least : (n : ℕ) → 5 ≤ bitsSent n
-unfolding bitsSent
-bitsSent-least n = if-elim (λ (x : ℕ). 5 ≤ x) (eqb n 5) (omega arith) (if-elim (λ (x : ℕ). 5 ≤ x) (eqb n 6) (omega arith) (if-elim (λ (x : ℕ). 5 ≤ x) (eqb n 7) (omega arith) (omega arith)))
-
-pub bitsSent-most : (n : ℕ) → bitsSent n ≤ 8
-unfolding bitsSent
-bitsSent-most n = if-elim (λ (x : ℕ). x ≤ 8) (eqb n 5) (omega arith) (if-elim (λ (x : ℕ). x ≤ 8) (eqb n 6) (omega arith) (if-elim (λ (x : ℕ). x ≤ 8) (eqb n 7) (omega arith) (omega arith)))
-
-pub stop-count-most : (n : ℕ) → length (stopBits n) ≤ 2
-unfolding stopBits
-stop-count-most n = if-elim (λ (x : List Bool). length x ≤ 2) (eqb n 2) (omega arith) (omega arith)
-
-pub stop-ones-most : (n : ℕ) → fromLow (stopBits n) ≤ 3
+-- the stop bits as a number
+pub ones-most : (n : ℕ) → fromLow (stopBits n) ≤ 3
 unfolding stopBits fromLow
-stop-ones-most n = if-elim (λ (x : List Bool). fromLow x ≤ 3) (eqb n 2) (omega arith) (omega arith)
+ones-most n = if-elim (λ (x : List Bool). fromLow x ≤ 3) (eqb n 2) (omega arith) (omega arith)
 
 pub bit-most : (b : Bool) → boolByte b ≤ 1
 bit-most true = omega arith

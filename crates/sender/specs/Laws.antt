@@ -1,1 +1,4 @@
--- The laws of the sender. Assumes nothing.
+-- The sender's laws, a file for each idea, in the order of the definitions.
+pub mod Character
+pub mod Tick
+pub mod Sound
