@@ -1,0 +1,21 @@
+-- `sender::Core::start_character` meets its contract: each return by the facts on its way. Assumes nothing.
+use Rattle.sender.proofs.Branch.{tests}
+use borrow.Author.Needs.{needs}
+use Rattle.sender.proofs.Core.start_character.Statement.{statement}
+use Rattle.sender.proofs.Core.start_character.Tie as tie
+
+character-requires : tie.Need-character-requires
+character-requires c κs = search needs
+
+emptied-requires : tie.Need-emptied-requires
+emptied-requires c κs = search needs
+
+uncounted-requires : tie.Need-uncounted-requires
+uncounted-requires c κs = search needs
+
+returns : tie.Need-returns
+returns c = simp (tests, c .uncounted .ensures, c .before .emptied .ensures, c .before .before .character .ensures)
+
+pub start-character-spec : {M : Type 1} → statement M
+start-character-spec =
+    tie.close (tie.spec character-requires emptied-requires uncounted-requires returns)

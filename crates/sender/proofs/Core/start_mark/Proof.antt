@@ -1,0 +1,14 @@
+-- `sender::Core::start_mark` meets its contract: each return by the facts on its way. Assumes nothing.
+use Rattle.sender.proofs.Branch.{tests}
+use borrow.Author.Needs.{needs}
+use Rattle.sender.proofs.Core.start_mark.Statement.{statement}
+use Rattle.sender.proofs.Core.start_mark.Tie as tie
+
+uncounted-requires : tie.Need-uncounted-requires
+uncounted-requires c κs = search needs
+
+returns : tie.Need-returns
+returns c = simp (tests, c .uncounted .ensures)
+
+pub start-mark-spec : {M : Type 1} → statement M
+start-mark-spec = tie.close (tie.spec uncounted-requires returns)

@@ -1,0 +1,17 @@
+-- `sender::Sender::all_sent` meets its contract: each return by the facts on its way. Assumes nothing.
+use Rattle.sender.proofs.Branch.{tests}
+use borrow.Author.Needs.{needs}
+use Rattle.sender.proofs.Sender.all_sent.Statement.{statement}
+use Rattle.sender.proofs.Sender.all_sent.Tie as tie
+
+in-sdlc-requires : tie.Need-in-sdlc-requires
+in-sdlc-requires c κs = search needs
+
+under-way-requires : tie.Need-under-way-requires
+under-way-requires c κs = search needs
+
+returns : tie.Need-returns
+returns c = simp (tests, ← c .before .under-way .ensures, ← c .before .before .in-sdlc .ensures)
+
+pub all-sent-spec : {M : Type 1} → statement M
+all-sent-spec = tie.close (tie.spec in-sdlc-requires under-way-requires returns)

@@ -1,0 +1,54 @@
+-- `sender::Sender::tick` meets its contract: each return by the facts on its way. Assumes nothing.
+use Rattle.sender.proofs.Branch.{tests}
+use Rattle.sender.specs.Sender.{tick}
+use borrow.Author.Needs.{needs}
+use Rattle.sender.proofs.Sender.tick.Statement.{statement}
+use Rattle.sender.proofs.Sender.tick.Tie as tie
+
+enum-told : tie.Need-enum-told
+enum-told c = search needs
+
+enum-told-2 : tie.Need-enum-told-2
+enum-told-2 c = search needs
+
+tick-asynchronous-requires : tie.Need-tick-asynchronous-requires
+tick-asynchronous-requires c κs = search needs
+
+with-break-requires : tie.Need-with-break-requires
+with-break-requires c κs = search needs
+
+enum-told-3 : tie.Need-enum-told-3
+enum-told-3 c = search needs
+
+tick-sdlc-requires : tie.Need-tick-sdlc-requires
+tick-sdlc-requires c κs = search needs
+
+with-break-requires-2 : tie.Need-with-break-requires-2
+with-break-requires-2 c κs = search needs
+
+returns : tie.Need-returns
+unfolding tick
+returns c = simp (tests, c .enum-told .given .1)
+
+returns-2 : tie.Need-returns-2
+unfolding tick
+returns-2 c = simp (tests, c .before .before .enum-told2 .given .1, ← c .before .tick-asynchronous .ensures) (c .with-break .ensures)
+
+returns-3 : tie.Need-returns-3
+unfolding tick
+returns-3 c = simp (tests, c .before .before .enum-told3 .given .1, ← c .before .tick-sdlc .ensures) (c .with-break2 .ensures)
+
+pub tick-spec : {M : Type 1} → statement M
+tick-spec =
+    tie.close
+    (tie.spec
+    enum-told
+    enum-told-2
+    tick-asynchronous-requires
+    with-break-requires
+    enum-told-3
+    tick-sdlc-requires
+    with-break-requires-2
+    returns
+    returns-2
+    returns-3)

@@ -1,0 +1,19 @@
+-- `sender::stop_ones` meets its contract: each return by the facts on its way. Assumes nothing.
+use Rattle.sender.proofs.Branch.{tests}
+use Rattle.line.specs.Laws.Bits.{fromLow}
+use Rattle.sender.specs.Character.{stopBits}
+use Rattle.line.specs.Bits.{textBits}
+use Rattle.line.specs.Bits.{cells}
+use Rattle.sender.proofs.stop_ones.Statement.{statement}
+use Rattle.sender.proofs.stop_ones.Tie as tie
+
+returns : tie.Need-returns
+unfolding fromLow stopBits textBits cells
+returns c = simp (tests, c .if1 .taken)
+
+returns-2 : tie.Need-returns-2
+unfolding fromLow stopBits textBits cells
+returns-2 c = simp (tests, c .if1 .left)
+
+pub stop-ones-spec : {M : Type 1} → statement M
+stop-ones-spec = tie.close (tie.spec returns returns-2)

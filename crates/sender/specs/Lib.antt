@@ -1,0 +1,4 @@
+pub mod Character
+pub mod Sender
+pub mod Sound
+pub mod Laws
