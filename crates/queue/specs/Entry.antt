@@ -8,6 +8,10 @@ pub use Rattle.queue.specs.declared.Entry.{Entry}
 abbrev pub received : ℕ → Bool → Bool → Bool → Bool → Entry
 received v p f e b = record { byte = v; parity = p; overrun = false; framing = f; ends = e; bad = b }
 
+-- what the SDLC receiver hands over: a character, whether it ends a frame, and whether that frame's check is bad
+abbrev pub plainEntry : ℕ → Bool → Bool → Entry
+plainEntry v e b = received v false false e b
+
 -- what stands where no character is
 abbrev pub none : Entry
 none = received 0 false false false false

@@ -9,7 +9,7 @@ use lib.ListN.{length, length-set}
 use borrow.Author.Tests.{ltb-true}
 use Rattle.common.specs.Choice.{if_then_else_}
 use Rattle.common.specs.Tools.{if-elim}
-use Rattle.queue.specs.Entry.{Entry, none, received}
+use Rattle.queue.specs.Entry.{Entry, plainEntry}
 use Rattle.queue.specs.Queue.{Queue, queue, empty, room, pushed, taken, oldest, waits, errorReset, placed, rr1Of, rr1}
 
 -- what only a queue with a history has: three entries, and no more of them wait
@@ -43,10 +43,7 @@ take-sound q s =
 pub error-reset-sound : (q : Queue) → SoundQueue q → SoundQueue (errorReset q)
 error-reset-sound q s = record { whole = s .whole; within = s .within }
 
--- what the SDLC receiver hands over: a character with no mark but, at a frame's end, the end mark and a bad check
-abbrev pub plainEntry : ℕ → Bool → Bool → Entry
-plainEntry v e b = received v false false e b
-
+-- no mark but, at a frame's end, the end mark and a bad check
 pub data Plain : Entry → Type 0 where
   plain : {v : ℕ} {e b : Bool} → Plain (plainEntry v e b)
 
