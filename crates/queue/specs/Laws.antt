@@ -21,7 +21,7 @@ pub empty-sound : SoundQueue empty
 empty-sound = record { whole = refl; within = omega arith }
 
 -- whichever way a choice went, with what its test said
-by-test : {A : Type 0} (P : A → Type 0) (t : Bool) {x y : A} → (t ≡ true → P x) → (t ≡ false → P y) → P (if t then x else y)
+pub by-test : {A : Type 0} (P : A → Type 0) (t : Bool) {x y : A} → (t ≡ true → P x) → (t ≡ false → P y) → P (if t then x else y)
 by-test P true f g = f refl
 by-test P false f g = g refl
 
