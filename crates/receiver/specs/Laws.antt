@@ -10,8 +10,8 @@ use Rattle.common.specs.declared.Mode.{Mode}
 use Rattle.common.specs.declared.Mode.the-variants.{NoMode, Asynchronous, Sdlc}
 use Rattle.line.specs.Bits.{oneIf}
 use Rattle.queue.specs.Laws.{Plain, plain, by-test}
-use Rattle.receiver.specs.State.{Receiving, Assembly, Receiver, Heard, content, following, assembling}
-use Rattle.receiver.specs.Sdlc.{spilled, oldestBit, wrong, accept, push, deaf, one, zeroBit}
+use Rattle.receiver.specs.State.{Receiving, Assembly, Receiver, Heard, fullDelay, content, following, assembling}
+use Rattle.receiver.specs.Sdlc.{lastBit, spilled, oldestBit, wrong, accept, push, deaf, one, zeroBit}
 use Rattle.receiver.specs.Asynchronous.{size, begun, asynchronous}
 use Rattle.receiver.specs.Receiver.{reset, enterHunt, modeChanged, presetCheck, hearIn, hear}
 
@@ -22,11 +22,11 @@ PlainHeard h = Plain (h .entry)
 
 accept-plain : (g : Receiving) (s : Receiver) (o : ℕ) (x : Bool) (d : ℕ) (b : Bool) → PlainHeard (accept g s o x d b)
 unfolding accept
-accept-plain g s o x d b = if-elim PlainHeard (ltb (s .content .chars .count) 7) plain (if-elim PlainHeard (wrong g (s .content .chars .have) _) plain plain)
+accept-plain g s o x d b = if-elim PlainHeard (ltb (s .content .chars .count) lastBit) plain (if-elim PlainHeard (wrong g (s .content .chars .have) _) plain plain)
 
 push-plain : (g : Receiving) (s : Receiver) (o : ℕ) (x b : Bool) → PlainHeard (push g s o x b)
 unfolding push
-push-plain g s o x b = if-elim PlainHeard (ltb (s .content .delay) 128) plain (accept-plain g s o x (spilled (s .content .delay) b) (oldestBit (s .content .delay)))
+push-plain g s o x b = if-elim PlainHeard (ltb (s .content .delay) fullDelay) plain (accept-plain g s o x (spilled (s .content .delay) b) (oldestBit (s .content .delay)))
 
 one-plain : (g : Receiving) (s : Receiver) → PlainHeard (one g s)
 unfolding one
@@ -80,8 +80,8 @@ module _ (g : Receiving) (s : Receiver) (t : SoundReceiver s) where
   accept-sound : (o : ℕ) (x : Bool) (d : ℕ) (b : Bool) → o ≤ 7 → 1 ≤ d → d ≤ 255 → SoundHeard (accept g s o x d b)
   unfolding accept
   accept-sound o x d b a l f =
-      by-test SoundHeard (ltb (s .content .chars .count) 7)
-      (λ e. record { run = a; led = l; fits = f; part = omega (arith, ltb-true (s .content .chars .count) 7 e); left = t .left })
+      by-test SoundHeard (ltb (s .content .chars .count) lastBit)
+      (λ e. record { run = a; led = l; fits = f; part = omega (arith, ltb-true (s .content .chars .count) lastBit e); left = t .left })
       (λ e. if-elim SoundHeard (wrong g (s .content .chars .have) _)
       (record { run = a; led = omega arith; fits = omega arith; part = omega arith; left = t .left })
       (record { run = a; led = l; fits = f; part = omega arith; left = t .left }))
@@ -90,8 +90,8 @@ module _ (g : Receiving) (s : Receiver) (t : SoundReceiver s) where
   unfolding push
   push-sound o x b a =
       let d = s .content .delay in
-      by-test SoundHeard (ltb d 128)
-      (λ e. record { run = a; led = omega (arith, t .led); fits = omega (arith, ltb-true d 128 e, oneIf-le b); part = t .part; left = t .left })
+      by-test SoundHeard (ltb d fullDelay)
+      (λ e. record { run = a; led = omega (arith, t .led); fits = omega (arith, ltb-true d fullDelay e, oneIf-le b); part = t .part; left = t .left })
       (λ e. accept-sound o x (spilled d b) (oldestBit d) a (omega arith) (omega (arith, oneIf-le b)))
 
   one-sound : SoundHeard (one g s)

@@ -7,7 +7,7 @@ use Rattle.line.specs.Bits.{odd, oneIf}
 use Rattle.line.specs.Check.{sdlc, checkStep, remainder}
 use Rattle.queue.specs.Entry.{plainEntry}
 use Rattle.queue.specs.declared.Entry.{Entry}
-use Rattle.receiver.specs.State.{Receiving, Chars, Content, Receiver, Heard, chars, noChars, freshChars, emptyDelay, content, following, heard, silent}
+use Rattle.receiver.specs.State.{Receiving, Chars, Content, Receiver, Heard, chars, noChars, freshChars, emptyDelay, fullDelay, content, following, heard, silent}
 
 -- ones in a row; more than an abort's seven are counted as seven
 abbrev pub counted : ℕ → ℕ
@@ -17,12 +17,16 @@ counted o = if ltb o 7 then o + 1 else 7
 abbrev pub shiftIn : Bool → ℕ → ℕ
 shiftIn b p = p / 2 + oneIf b * 128
 
--- "a seven-bit delay": below 128 it has room for a bit; a full one gives its oldest, and the bit enters behind the others
+-- "In SDLC all characters have eight bits": the place of the last
+abbrev pub lastBit : ℕ
+lastBit = 7
+
+-- "a seven-bit delay": a bit enters behind the others; a full one gives its oldest
 abbrev pub appended : ℕ → Bool → ℕ
 appended d b = d * 2 + oneIf b
 
 abbrev pub spilled : ℕ → Bool → ℕ
-spilled d b = 128 + d % 64 * 2 + oneIf b
+spilled d b = fullDelay + d % 64 * 2 + oneIf b
 
 abbrev pub oldestBit : ℕ → Bool
 oldestBit d = odd (d / 64)
@@ -41,7 +45,7 @@ accept g s o x d b =
     let c = s .content .chars in
     let v = shiftIn b (c .part) in
     let k = checkStep sdlc (c .check) b in
-    if ltb (c .count) 7 then silent (following s (content false false o d (chars (c .count + 1) v (c .have) (c .held) k)) x)
+    if ltb (c .count) lastBit then silent (following s (content false false o d (chars (c .count + 1) v (c .have) (c .held) k)) x)
     else (if wrong g (c .have) v then silent (following s (content false true o emptyDelay (noChars k)) x)
     else heard (following s (content false false o d (chars 0 0 true v k)) x) (c .have) (plainEntry (c .held) false false))
 
@@ -49,7 +53,7 @@ accept g s o x d b =
 unfoldable pub push : Receiving → Receiver → ℕ → Bool → Bool → Heard
 push g s o x b =
     let d = s .content .delay in
-    if ltb d 128 then silent (following s (content false false o (appended d b) (s .content .chars)) x)
+    if ltb d fullDelay then silent (following s (content false false o (appended d b) (s .content .chars)) x)
     else accept g s o x (spilled d b) (oldestBit d)
 
 -- in hunt, or the frame is dropped

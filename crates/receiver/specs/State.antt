@@ -23,9 +23,12 @@ noChars k = chars 0 0 false 0 k
 abbrev pub freshChars : Chars
 freshChars = noChars ones
 
--- the delay is a number: the bits in it, under a leading one
+-- the delay is a number: the bits in it, under a leading one; with seven bits in it it is at least this
 abbrev pub emptyDelay : ℕ
 emptyDelay = 1
+
+abbrev pub fullDelay : ℕ
+fullDelay = 128
 
 abbrev pub content : Bool → Bool → ℕ → ℕ → Chars → Content
 content h k o d c = record { hunt = h; skip = k; ones = o; delay = d; chars = c }

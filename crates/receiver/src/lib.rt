@@ -73,6 +73,8 @@ pub struct Heard {
 const EMPTY: u8 = 1;
 
 const FULL: u8 = 128;
+// The place of a character's last bit.
+const LAST: u8 = 7;
 // What a good frame leaves in the check.
 const REMAINDER: u16 = 0x1D0F;
 // Ones in a row before a dropped zero, before a flag's last zero, and in an abort.
@@ -346,7 +348,7 @@ impl Receiver {
         let c = was.chars;
         let part = shift_in(b, c.part);
         let check = check_step(SDLC, c.check, b);
-        if c.count < 7 {
+        if c.count < LAST {
             let chars = Chars {
                 count: c.count + 1,
                 part,
