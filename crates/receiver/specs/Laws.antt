@@ -76,6 +76,11 @@ oneIf-le : (b : Bool) → oneIf b ≤ 1
 oneIf-le true = omega arith
 oneIf-le false = omega arith
 
+size-within : (n : ℕ) → size n ≤ 8
+unfolding size
+size-within n =
+    if-elim (λ k. k ≤ 8) (eqb n 5) (omega arith) (if-elim (λ k. k ≤ 8) (eqb n 6) (omega arith) (if-elim (λ k. k ≤ 8) (eqb n 7) (omega arith) (omega arith)))
+
 module _ (g : Receiving) (s : Receiver) (t : SoundReceiver s) where
   accept-sound : (o : ℕ) (x : Bool) (d : ℕ) (b : Bool) → o ≤ 7 → 1 ≤ d → d ≤ 255 → SoundHeard (accept g s o x d b)
   unfolding accept
@@ -120,11 +125,6 @@ module _ (g : Receiving) (s : Receiver) (t : SoundReceiver s) where
   -- an asynchronous bit leaves the content alone
   assembled : (a : Assembly) → a .left ≤ 10 → SoundReceiver (assembling s a)
   assembled a l = record { run = t .run; led = t .led; fits = t .fits; part = t .part; left = l }
-
-  size-within : (n : ℕ) → size n ≤ 8
-  unfolding size
-  size-within n =
-      if-elim (λ k. k ≤ 8) (eqb n 5) (omega arith) (if-elim (λ k. k ≤ 8) (eqb n 6) (omega arith) (if-elim (λ k. k ≤ 8) (eqb n 7) (omega arith) (omega arith)))
 
   asynchronous-sound : (b : Bool) → SoundHeard (asynchronous g s b)
   unfolding asynchronous

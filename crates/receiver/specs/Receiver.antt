@@ -4,7 +4,7 @@ use Rattle.common.specs.Choice.{if_then_else_}
 use Rattle.common.specs.declared.Mode.{Mode}
 use Rattle.common.specs.declared.Mode.the-variants.{NoMode, Asynchronous, Sdlc}
 use Rattle.line.specs.Check.{ones}
-use Rattle.receiver.specs.State.{Receiving, Content, Receiver, Heard, chars, noChars, freshChars, emptyDelay, content, noCharacter, receiver, following, silent}
+use Rattle.receiver.specs.State.{Receiving, Receiver, Heard, chars, noChars, freshChars, emptyDelay, content, noCharacter, receiver, following, silent}
 use Rattle.receiver.specs.Sdlc.{one, zeroBit}
 use Rattle.receiver.specs.Asynchronous.{asynchronous}
 
