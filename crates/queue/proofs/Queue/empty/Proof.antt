@@ -1,0 +1,18 @@
+use Rattle.queue.proofs.Branch.{tests}
+use borrow.Author.Needs.{needs}
+use Rattle.queue.proofs.Queue.empty.Statement.{statement}
+use Rattle.queue.proofs.Queue.empty.Tie as tie
+use Rattle.queue.proofs.Queue.empty.Reads as reads
+use Rattle.queue.proofs.Queue.empty.Lts as lts
+use Rattle.queue.proofs.Entry.none.Reads as none-reads
+
+-- src/lib.rt:94:13
+none-requires : tie.Need-none-requires
+none-requires c κs = search needs
+
+-- src/lib.rt:91:5
+returns : tie.Need-returns
+returns c = simp (tests, c .none .ensures)
+
+pub empty-spec : {M : Type 1} → statement M
+empty-spec = tie.close (tie.spec none-requires returns)

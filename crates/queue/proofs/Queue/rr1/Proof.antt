@@ -1,0 +1,89 @@
+use Rattle.queue.proofs.Branch.{tests}
+use Rattle.queue.specs.Queue.{rr1}
+use borrow.Author.Needs.{needs}
+use Rattle.queue.proofs.Queue.rr1.Statement.{statement}
+use Rattle.queue.proofs.Queue.rr1.Tie as tie
+use Rattle.queue.proofs.Queue.rr1.Reads as reads
+use Rattle.queue.proofs.Queue.rr1.Lts as lts
+use Rattle.queue.proofs.Queue.oldest.Reads as oldest-reads
+use Rattle.queue.proofs.placed.Reads as placed-reads
+
+-- src/lib.rt:198:13
+oldest-requires : tie.Need-oldest-requires
+oldest-requires c κs = search needs
+
+-- src/lib.rt:200:13
+placed-requires : tie.Need-placed-requires
+placed-requires c κs = search needs
+
+-- src/lib.rt:201:13
+placed-requires-2 : tie.Need-placed-requires-2
+placed-requires-2 c κs = search needs
+
+-- src/lib.rt:202:13
+placed-requires-3 : tie.Need-placed-requires-3
+placed-requires-3 c κs = search needs
+
+-- src/lib.rt:203:13
+placed-requires-4 : tie.Need-placed-requires-4
+placed-requires-4 c κs = search needs
+
+-- src/lib.rt:204:13
+placed-requires-5 : tie.Need-placed-requires-5
+placed-requires-5 c κs = search needs
+
+-- src/lib.rt:205:13
+placed-requires-6 : tie.Need-placed-requires-6
+placed-requires-6 c κs = search needs
+
+-- src/lib.rt:206:9
+add-result : tie.Need-add-result
+add-result c = search needs
+
+-- src/lib.rt:206:9
+add-result-2 : tie.Need-add-result-2
+add-result-2 c = search needs
+
+-- src/lib.rt:206:9
+add-result-3 : tie.Need-add-result-3
+add-result-3 c = search needs
+
+-- src/lib.rt:206:9
+add-result-4 : tie.Need-add-result-4
+add-result-4 c = search needs
+
+-- src/lib.rt:206:9
+add-result-5 : tie.Need-add-result-5
+add-result-5 c = search needs
+
+-- src/lib.rt:195:5
+returns : tie.Need-returns
+unfolding rr1
+returns c =
+    simp (
+      c .placed6 .ensures .0,
+      c .before .placed5 .ensures .0,
+      c .before .before .placed4 .ensures .0,
+      c .before .before .before .placed3 .ensures .0,
+      c .before .before .before .before .placed2 .ensures .0,
+      c .before .before .before .before .before .placed .ensures .0,
+      c .before .before .before .before .before .before .before .before .oldest .ensures,
+    )
+
+pub rr1-spec : {M : Type 1} → statement M
+rr1-spec =
+    tie.close
+    (tie.spec
+    oldest-requires
+    placed-requires
+    placed-requires-2
+    placed-requires-3
+    placed-requires-4
+    placed-requires-5
+    placed-requires-6
+    add-result
+    add-result-2
+    add-result-3
+    add-result-4
+    add-result-5
+    returns)

@@ -1,0 +1,20 @@
+use Rattle.queue.proofs.Branch.{tests}
+use Rattle.queue.specs.Queue.{special}
+use borrow.Author.Needs.{needs}
+use Rattle.queue.proofs.Queue.special.Statement.{statement}
+use Rattle.queue.proofs.Queue.special.Tie as tie
+use Rattle.queue.proofs.Queue.special.Reads as reads
+use Rattle.queue.proofs.Queue.special.Lts as lts
+use Rattle.queue.proofs.Queue.oldest.Reads as oldest-reads
+
+-- src/lib.rt:213:13
+oldest-requires : tie.Need-oldest-requires
+oldest-requires c κs = search needs
+
+-- src/lib.rt:210:5
+returns : tie.Need-returns
+unfolding special
+returns c = simp (tests, ← c .before .before .before .before .oldest .ensures)
+
+pub special-spec : {M : Type 1} → statement M
+special-spec = tie.close (tie.spec oldest-requires returns)

@@ -1,0 +1,3 @@
+pub mod Entry
+pub mod Queue
+pub mod Laws

@@ -1,0 +1,21 @@
+use Rattle.receiver.proofs.Branch.{tests}
+use borrow.Author.Needs.{needs}
+use Rattle.receiver.proofs.counted.Statement.{statement}
+use Rattle.receiver.proofs.counted.Tie as tie
+use Rattle.receiver.proofs.counted.Reads as reads
+use Rattle.receiver.proofs.counted.Lts as lts
+
+-- src/lib.rt:96:23
+add-result : tie.Need-add-result
+add-result c = search needs
+
+-- src/lib.rt:93:1
+returns : tie.Need-returns
+returns c = simp (tests, c .if1 .taken)
+
+-- src/lib.rt:93:1
+returns-2 : tie.Need-returns-2
+returns-2 c = simp (tests, c .if1 .left)
+
+pub counted-spec : {M : Type 1} → statement M
+counted-spec = tie.close (tie.spec add-result returns returns-2)

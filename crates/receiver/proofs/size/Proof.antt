@@ -1,0 +1,32 @@
+use Rattle.receiver.proofs.Branch.{tests}
+use native.Mathlib.Omega.{arith}
+use mathlib.Core.Path.{refl}
+use Rattle.receiver.specs.Asynchronous.{size}
+use borrow.Author.Needs.{needs}
+use Rattle.receiver.proofs.size.Statement.{statement}
+use Rattle.receiver.proofs.size.Tie as tie
+use Rattle.receiver.proofs.size.Reads as reads
+use Rattle.receiver.proofs.size.Lts as lts
+
+-- src/lib.rt:107:1
+returns : tie.Need-returns
+unfolding size
+returns c = search (needs, tests)
+
+-- src/lib.rt:107:1
+returns-2 : tie.Need-returns-2
+unfolding size
+returns-2 c = rw (c .match .keys2) (refl, omega arith)
+
+-- src/lib.rt:107:1
+returns-3 : tie.Need-returns-3
+unfolding size
+returns-3 c = rw (c .match .keys3) (refl, omega arith)
+
+-- src/lib.rt:107:1
+returns-4 : tie.Need-returns-4
+unfolding size
+returns-4 c = search (needs, tests)
+
+pub size-spec : {M : Type 1} → statement M
+size-spec = tie.close (tie.spec returns returns-2 returns-3 returns-4)

@@ -1,0 +1,5 @@
+pub mod State
+pub mod Sdlc
+pub mod Asynchronous
+pub mod Receiver
+pub mod Laws
