@@ -1,3 +1,5 @@
 pub mod Choice
 pub mod Refusal
+pub mod Mode
+pub mod Bit
 pub mod Tools

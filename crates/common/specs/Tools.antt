@@ -39,6 +39,11 @@ pub if-elim : {A : Type 0} (P : A → Type 0) (b : Bool) {x y : A} → P x → P
 if-elim P true p q = p
 if-elim P false p q = q
 
+-- the same, with what the test said
+pub by-test : {A : Type 0} (P : A → Type 0) (b : Bool) {x y : A} → (b ≡ true → P x) → (b ≡ false → P y) → P (if b then x else y)
+by-test P true f g = f refl
+by-test P false f g = g refl
+
 -- a number below two, by cases
 pub two-cases : (P : ℕ → Type 0) → P 0 → P 1 → (n : ℕ) → n < 2 → P n
 two-cases P p0 p1 zero h = p0

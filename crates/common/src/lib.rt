@@ -1,5 +1,8 @@
-// The refusals of document 01 with their numbers, and a channel's mode. Assumes nothing.
+// What every part cites: the refusals of document 01 with their numbers, a channel's mode, and a register's bits. Assumes nothing.
 ghost use mathlib.Core.Path.{_≡_};
+ghost use Prim.Native.Nat.{_≤_};
+ghost use Rattle.common.specs.Mode.{inSdlc};
+ghost use Rattle.common.specs.Bit.{placed};
 ghost use Rattle.common.specs.Refusal.{numberOf};
 
 // 01, Events: the table's rows, in its order. A refused call changes nothing and gives back only this.
@@ -48,4 +51,23 @@ pub enum Mode {
     NoMode,
     Asynchronous,
     Sdlc,
+}
+
+// The mode is SDLC.
+pub fn in_sdlc(mode: Mode) -> bool
+    ensures { λ r. ⌜ r ≡ inSdlc mode ⌝ }
+{
+    match mode {
+        Mode::NoMode => false,
+        Mode::Asynchronous => false,
+        Mode::Sdlc => true,
+    }
+}
+
+// A bit of a register, by its weight.
+pub fn placed(b: bool, weight: u8) -> u8
+    ensures { λ r. ⌜ r ≡ placed b weight ⌝ }
+    ensures { λ r. ⌜ r ≤ weight ⌝ }
+{
+    if b { weight } else { 0 }
 }

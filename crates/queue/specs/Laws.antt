@@ -8,9 +8,9 @@ use lib.Dec.{eqb, ltb}
 use lib.ListN.{length, length-set}
 use borrow.Author.Tests.{ltb-true}
 use Rattle.common.specs.Choice.{if_then_else_}
-use Rattle.common.specs.Tools.{if-elim}
+use Rattle.common.specs.Tools.{by-test, if-elim}
 use Rattle.queue.specs.Entry.{Entry, plainEntry}
-use Rattle.queue.specs.Queue.{Queue, queue, empty, room, pushed, taken, oldest, waits, errorReset, placed, rr1Of, rr1}
+use Rattle.queue.specs.Queue.{Queue, queue, empty, room, pushed, taken, oldest, waits, errorReset, rr1Of, rr1}
 
 -- what only a queue with a history has: three entries, and no more of them wait
 pub record SoundQueue (q : Queue) : Type 0 where
@@ -19,11 +19,6 @@ pub record SoundQueue (q : Queue) : Type 0 where
 
 pub empty-sound : SoundQueue empty
 empty-sound = record { whole = refl; within = omega arith }
-
--- whichever way a choice went, with what its test said
-pub by-test : {A : Type 0} (P : A → Type 0) (t : Bool) {x y : A} → (t ≡ true → P x) → (t ≡ false → P y) → P (if t then x else y)
-by-test P true f g = f refl
-by-test P false f g = g refl
 
 pub push-sound : (q : Queue) (e : Entry) → SoundQueue q → SoundQueue (pushed q e)
 unfolding pushed

@@ -5,6 +5,7 @@ use mathlib.Core.List.{List, [], _∷_}
 use Prim.Native.Nat.{ℕ, _+_, _-_}
 use lib.Dec.{eqb, ltb}
 use lib.ListN.{set, getD}
+use Rattle.common.specs.Bit.{placed}
 use Rattle.common.specs.Choice.{if_then_else_}
 pub use Rattle.queue.specs.declared.Queue.{Queue}
 use Rattle.queue.specs.Entry.{Entry, none, overran}
@@ -60,11 +61,6 @@ waits q = not (eqb (q .count) 0)
 -- 01, Registers: "6 Error Reset": the two latches and nothing else
 abbrev pub errorReset : Queue → Queue
 errorReset q = queue (q .entries) (q .count) false false
-
--- a bit of a register, by its weight
-abbrev pub placed : Bool → ℕ → ℕ
-placed true w = w
-placed false w = 0
 
 -- 01, Registers: "RR1: D0 all sent ..; D3-1 binary 011 if the oldest entry ends a frame, else 000; D4 parity, D5 overrun;
 -- D6 framing error or, at a frame's end, a bad check; D7 frame end. D6 and D7 are the oldest entry's"

@@ -1,8 +1,8 @@
 // The receive queue of a channel: three entries, RR1's two latches beside them, and what RR1 and the interrupts see of it. Assumes nothing.
+use common::placed;
 ghost use mathlib.Core.Path.{_≡_};
-ghost use Prim.Native.Nat.{_≤_};
 ghost use Rattle.queue.specs.Entry.{received, none, overran};
-ghost use Rattle.queue.specs.Queue.{empty, latching, keeping, pushed, taken, oldest, waits, errorReset, placed, rr1, special};
+ghost use Rattle.queue.specs.Queue.{empty, latching, keeping, pushed, taken, oldest, waits, errorReset, rr1, special};
 
 // A character with its marks.
 pub struct Entry {
@@ -82,14 +82,6 @@ fn wide(n: u8) -> usize
     ensures { λ r. ⌜ r ≡ n ⌝ }
 {
     n as usize
-}
-
-// A bit of a register, by its weight.
-fn placed(b: bool, weight: u8) -> u8
-    ensures { λ r. ⌜ r ≡ placed b weight ⌝ }
-    ensures { λ r. ⌜ r ≤ weight ⌝ }
-{
-    if b { weight } else { 0 }
 }
 
 impl Queue {

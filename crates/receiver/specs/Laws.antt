@@ -5,11 +5,11 @@ use Prim.Native.Nat.{ℕ, _+_, _≤_}
 use native.Mathlib.Omega.{arith}
 use lib.Dec.{eqb, ltb}
 use borrow.Author.Tests.{ltb-true}
-use Rattle.common.specs.Tools.{if-elim}
+use Rattle.common.specs.Tools.{if-elim, by-test}
 use Rattle.common.specs.declared.Mode.{Mode}
 use Rattle.common.specs.declared.Mode.the-variants.{NoMode, Asynchronous, Sdlc}
 use Rattle.line.specs.Bits.{oneIf}
-use Rattle.queue.specs.Laws.{Plain, plain, by-test}
+use Rattle.queue.specs.Laws.{Plain, plain}
 use Rattle.receiver.specs.State.{Receiving, Assembly, Receiver, Heard, fullDelay, content, following, assembling}
 use Rattle.receiver.specs.Sdlc.{lastBit, spilled, oldestBit, wrong, accept, push, deaf, one, zeroBit}
 use Rattle.receiver.specs.Asynchronous.{size, begun, asynchronous}

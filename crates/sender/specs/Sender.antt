@@ -4,6 +4,7 @@ use mathlib.Core.Bool.{Bool, true, false, not, _&&_, _||_}
 use Prim.Native.Nat.{ℕ, _-_, _/_}
 use lib.Dec.{eqb}
 use Rattle.common.specs.Choice.{if_then_else_}
+use Rattle.common.specs.Mode.{inSdlc}
 use Rattle.common.specs.declared.Mode.{Mode}
 use Rattle.common.specs.declared.Mode.the-variants.{NoMode, Asynchronous, Sdlc}
 use Rattle.line.specs.Bits.{odd, lowBits}
@@ -144,11 +145,6 @@ tick g s = tickIn (g .mode) g s
 -- "A data write fills the buffer, replacing what is there."
 abbrev pub written : Sender → ℕ → Sender
 written s v = sender (s .unit) (core (s .core .run) (s .core .owed) v true (s .core .latch) (s .core .check))
-
-abbrev pub inSdlc : Mode → Bool
-inSdlc NoMode = false
-inSdlc Asynchronous = false
-inSdlc Sdlc = true
 
 -- under way from the command to the next unit's first bit
 abbrev pub aborting : LineUnit → Bool

@@ -1,5 +1,6 @@
 // 01, Sending: one channel's sender. Settings come decoded; a tick gives a line bit. Assumes nothing.
 use common::Mode;
+use common::in_sdlc;
 use line::ONES;
 use line::SDLC;
 use line::check_byte;
@@ -11,7 +12,7 @@ ghost use Rattle.line.specs.Laws.Bits.{fromLow};
 ghost use Rattle.sender.specs.Character.{bitsSent, parityBit, stopBits, characterOf};
 ghost use Rattle.sender.specs.Sender.{counted, uncounted, emptied, latched, entered, startMark, startFlag, startByte, startCheck, following, next, flagBit, going, tickSdlc};
 ghost use Rattle.sender.specs.Sender.{underWay, startCharacter, idling, tickAsynchronous, withBreak, tick};
-ghost use Rattle.sender.specs.Sender.{written, inSdlc, aborting, cutShort, aborted, checkPreset, latchCleared, idled, atReset, allSent, checking, bufferReady};
+ghost use Rattle.sender.specs.Sender.{written, aborting, cutShort, aborted, checkPreset, latchCleared, idled, atReset, allSent, checking, bufferReady};
 
 // What is on the line. The first number: bits still to be sent; the second: what is left to shift out.
 pub enum LineUnit {
@@ -194,17 +195,6 @@ pub fn flag_bit(n: u8) -> bool
     ensures { λ r. ⌜ r ≡ flagBit n ⌝ }
 {
     (n != 8) & (n != 1)
-}
-
-// The mode is SDLC.
-pub fn in_sdlc(mode: Mode) -> bool
-    ensures { λ r. ⌜ r ≡ inSdlc mode ⌝ }
-{
-    match mode {
-        Mode::NoMode => false,
-        Mode::Asynchronous => false,
-        Mode::Sdlc => true,
-    }
 }
 
 impl Core {

@@ -4,6 +4,7 @@ use mathlib.Core.Bool.{Bool, true, false, not, _&&_}
 use Prim.Native.Nat.{ℕ, _+_, _<_}
 use native.Mathlib.Omega.{arith}
 use lib.Dec.{eqb}
+use Rattle.common.specs.Mode.{inSdlc}
 use Rattle.common.specs.Choice.{if_then_else_}
 use Rattle.common.specs.Tools.{if-elim, ltb-elim}
 use Rattle.common.specs.declared.Mode.{Mode}
@@ -17,7 +18,7 @@ use Rattle.sender.specs.declared.Core.{Core}
 use Rattle.sender.specs.declared.Sender.{Sender}
 use Rattle.sender.specs.declared.Sending.{Sending}
 use Rattle.sender.specs.declared.Ticked.{Ticked}
-use Rattle.sender.specs.Sender.{core, sender, following, next, going, tickSdlc, idling, tickAsynchronous, withBreak, tickIn, tick, written, inSdlc, aborting, aborted, checkPreset, latchCleared, idled, atReset}
+use Rattle.sender.specs.Sender.{core, sender, following, next, going, tickSdlc, idling, tickAsynchronous, withBreak, tickIn, tick, written, aborting, aborted, checkPreset, latchCleared, idled, atReset}
 use Rattle.sender.specs.Sound.{SoundUnit, SoundSender}
 use Rattle.sender.specs.Laws.Character.{character-most}
 

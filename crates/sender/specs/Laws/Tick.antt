@@ -7,6 +7,7 @@ use Prim.Native.Nat.{ℕ, zero, suc, _+_, _*_, _-_, _/_, _%_}
 use native.Mathlib.Omega.{arith}
 use lib.Dec.{eqb, eqb·suc-zero}
 use lib.ListN.{length}
+use Rattle.common.specs.Mode.{inSdlc}
 use Rattle.common.specs.Tools.{bool-or}
 use Rattle.common.specs.declared.Mode.the-variants.{NoMode, Asynchronous, Sdlc}
 use Rattle.line.specs.Bits.{odd, oneIf}
@@ -20,7 +21,7 @@ use Rattle.sender.specs.declared.Sender.{Sender}
 use Rattle.sender.specs.declared.Sending.{Sending}
 use Rattle.sender.specs.declared.Ticked.{Ticked}
 use Rattle.sender.specs.Character.{characterBits, holding}
-use Rattle.sender.specs.Sender.{core, sender, ticked, counted, uncounted, paid, emptied, latched, startMark, startFlag, startByte, startCheck, following, next, flagBit, going, tickSdlc, underWay, startCharacter, idling, tickAsynchronous, withBreak, tick, inSdlc, aborting, cutShort, aborted}
+use Rattle.sender.specs.Sender.{core, sender, ticked, counted, uncounted, paid, emptied, latched, startMark, startFlag, startByte, startCheck, following, next, flagBit, going, tickSdlc, underWay, startCharacter, idling, tickAsynchronous, withBreak, tick, aborting, cutShort, aborted}
 
 -- SDLC: a tick while a unit is under way
 

@@ -3,10 +3,6 @@ use Rattle.queue.specs.Queue.{rr1}
 use borrow.Author.Needs.{needs}
 use Rattle.queue.proofs.Queue.rr1.Statement.{statement}
 use Rattle.queue.proofs.Queue.rr1.Tie as tie
-use Rattle.queue.proofs.Queue.rr1.Reads as reads
-use Rattle.queue.proofs.Queue.rr1.Lts as lts
-use Rattle.queue.proofs.Queue.oldest.Reads as oldest-reads
-use Rattle.queue.proofs.placed.Reads as placed-reads
 
 -- src/lib.rt:198:13
 oldest-requires : tie.Need-oldest-requires
