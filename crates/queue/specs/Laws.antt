@@ -8,6 +8,7 @@ use lib.Dec.{eqb, ltb}
 use lib.ListN.{length, length-set}
 use borrow.Author.Tests.{ltb-true}
 use Rattle.common.specs.Choice.{if_then_else_}
+use Rattle.common.specs.Bit.{placed}
 use Rattle.common.specs.Tools.{by-test, if-elim}
 use Rattle.queue.specs.Entry.{Entry, plainEntry}
 use Rattle.queue.specs.Queue.{Queue, queue, empty, room, pushed, taken, oldest, waits, errorReset, rr1Of, rr1}
