@@ -1,0 +1,18 @@
+use Rattle.channel.proofs.Branch.{tests}
+use borrow.Author.Needs.{needs}
+use Rattle.channel.proofs.Channel.data_write.Statement.{statement}
+use Rattle.channel.proofs.Channel.data_write.Tie as tie
+use Rattle.channel.proofs.Channel.data_write.Reads as reads
+use Rattle.channel.proofs.Channel.data_write.Lts as lts
+use Rattle.sender.proofs.Sender.write.Reads as write-reads
+
+-- src/lib.rt:522:9
+write-requires : tie.Need-write-requires
+write-requires c κs = search needs
+
+-- src/lib.rt:517:5
+returns : tie.Need-returns
+returns c = simp (tests, c .write .ensures)
+
+pub data-write-spec : {M : Type 1} → statement M
+data-write-spec = tie.close (tie.spec write-requires returns)

@@ -1,0 +1,25 @@
+use Rattle.channel.proofs.Branch.{tests}
+use Rattle.channel.specs.Channel.{liveOf}
+use borrow.Author.Needs.{needs}
+use Rattle.channel.proofs.Channel.live.Statement.{statement}
+use Rattle.channel.proofs.Channel.live.Tie as tie
+use Rattle.channel.proofs.Channel.live.Reads as reads
+use Rattle.channel.proofs.Channel.live.Lts as lts
+use Rattle.receiver.proofs.Receiver.hunting.Reads as hunting-reads
+use Rattle.settings.proofs.Registers.receiving.Reads as receiving-reads
+
+-- src/lib.rt:243:13
+receiving-requires : tie.Need-receiving-requires
+receiving-requires c κs = search needs
+
+-- src/lib.rt:248:19
+hunting-requires : tie.Need-hunting-requires
+hunting-requires c κs = search needs
+
+-- src/lib.rt:235:5
+returns : tie.Need-returns
+unfolding liveOf
+returns c = simp (tests, c .hunting .ensures, ← c .before .receiving .ensures)
+
+pub live-spec : {M : Type 1} → statement M
+live-spec = tie.close (tie.spec receiving-requires hunting-requires returns)

@@ -1,0 +1,20 @@
+use Rattle.channel.proofs.Branch.{tests}
+use Rattle.channel.specs.Events.{linesSet}
+use borrow.Author.Needs.{needs}
+use Rattle.channel.proofs.Channel.set_lines.Statement.{statement}
+use Rattle.channel.proofs.Channel.set_lines.Tie as tie
+use Rattle.channel.proofs.Channel.set_lines.Reads as reads
+use Rattle.channel.proofs.Channel.set_lines.Lts as lts
+use Rattle.channel.proofs.Channel.settled.Reads as settled-reads
+
+-- src/lib.rt:614:9
+settled-requires : tie.Need-settled-requires
+settled-requires c κs = search needs
+
+-- src/lib.rt:608:5
+returns : tie.Need-returns
+unfolding linesSet
+returns c = c .settled .ensures
+
+pub set-lines-spec : {M : Type 1} → statement M
+set-lines-spec = tie.close (tie.spec settled-requires returns)

@@ -1,0 +1,48 @@
+use Rattle.channel.proofs.Branch.{tests}
+use Rattle.channel.specs.Events.{transmitTick}
+use borrow.Author.Needs.{needs}
+use Rattle.channel.proofs.Channel.transmit_tick.Statement.{statement}
+use Rattle.channel.proofs.Channel.transmit_tick.Tie as tie
+use Rattle.channel.proofs.Channel.transmit_tick.Reads as reads
+use Rattle.channel.proofs.Channel.transmit_tick.Lts as lts
+use Rattle.channel.proofs.Channel.after_tick.Reads as after-tick-reads
+use Rattle.channel.proofs.Channel.settled.Reads as settled-reads
+use Rattle.channel.proofs.cell.Reads as cell-reads
+use Rattle.sender.proofs.Sender.tick.Reads as tick-reads
+use Rattle.settings.proofs.Registers.sending.Reads as sending-reads
+
+-- src/lib.rt:566:24
+sending-requires : tie.Need-sending-requires
+sending-requires c κs = search needs
+
+-- src/lib.rt:566:13
+tick-requires : tie.Need-tick-requires
+tick-requires c κs = search needs
+
+-- src/lib.rt:567:17
+after-tick-requires : tie.Need-after-tick-requires
+after-tick-requires c κs = search needs
+
+-- src/lib.rt:567:13
+settled-requires : tie.Need-settled-requires
+settled-requires c κs = search needs
+
+-- src/lib.rt:569:34
+cell-requires : tie.Need-cell-requires
+cell-requires c κs = search needs
+
+-- src/lib.rt:560:5
+returns : tie.Need-returns
+unfolding transmitTick
+returns c = simp (tests, c .cell .ensures, ← c .before .settled .ensures, ← c .before .before .after-tick .ensures, ← c .before .before .before .tick .ensures, ← c .before .before .before .before .sending .ensures)
+
+pub transmit-tick-spec : {M : Type 1} → statement M
+transmit-tick-spec =
+    tie.close
+    (tie.spec
+    sending-requires
+    tick-requires
+    after-tick-requires
+    settled-requires
+    cell-requires
+    returns)

@@ -1,0 +1,17 @@
+-- `chip::Chip::reset` meets its contract: each return by the facts on its way. Assumes nothing.
+use Rattle.chip.proofs.Branch.{tests}
+use borrow.Author.Needs.{needs}
+use Rattle.chip.proofs.Chip.reset.Statement.{statement}
+use Rattle.chip.proofs.Chip.reset.Tie as tie
+
+reset-requires : tie.Need-reset-requires
+reset-requires c κs = search needs
+
+reset-requires-2 : tie.Need-reset-requires-2
+reset-requires-2 c κs = search needs
+
+returns : tie.Need-returns
+returns c = simp (tests, c .reset2 .ensures, ← c .before .reset .ensures)
+
+pub reset-spec : {M : Type 1} → statement M
+reset-spec = tie.close (tie.spec reset-requires reset-requires-2 returns)

@@ -1,0 +1,46 @@
+-- `chip::Chip::transmit` meets its contract: each return by the facts on its way. Assumes nothing.
+use Rattle.chip.proofs.Branch.{tests}
+use Rattle.chip.specs.Chip.{transmitCall}
+use borrow.Author.Needs.{needs}
+use Rattle.chip.proofs.Chip.transmit.Statement.{statement}
+use Rattle.chip.proofs.Chip.transmit.Tie as tie
+
+transmit-tick-requires : tie.Need-transmit-tick-requires
+transmit-tick-requires c κs = search needs
+
+in-a-requires : tie.Need-in-a-requires
+in-a-requires c κs = search needs
+
+returns : tie.Need-returns
+unfolding transmitCall
+returns c = simp (tests, c .before .before .before .if1 .taken, ← c .before .transmit-tick .ensures) (c .in-a .ensures)
+
+transmit-tick-requires-2 : tie.Need-transmit-tick-requires-2
+transmit-tick-requires-2 c κs = search needs
+
+in-b-requires : tie.Need-in-b-requires
+in-b-requires c κs = search needs
+
+returns-2 : tie.Need-returns-2
+unfolding transmitCall
+returns-2 c = simp (tests, c .before .before .before .if2 .taken, c .before .before .before .before .if1 .left, ← c .before .transmit-tick2 .ensures) (c .in-b .ensures)
+
+refused-requires : tie.Need-refused-requires
+refused-requires c κs = search needs
+
+returns-3 : tie.Need-returns-3
+unfolding transmitCall
+returns-3 c = simp (tests, c .before .if2 .left, c .before .before .if1 .left) (c .refused .ensures)
+
+pub transmit-spec : {M : Type 1} → statement M
+transmit-spec =
+    tie.close
+    (tie.spec
+    transmit-tick-requires
+    in-a-requires
+    returns
+    transmit-tick-requires-2
+    in-b-requires
+    returns-2
+    refused-requires
+    returns-3)

@@ -1,0 +1,2 @@
+pub mod Interrupts
+pub mod Chip

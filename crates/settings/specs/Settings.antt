@@ -1,0 +1,114 @@
+-- 01, Registers: what the write registers say, each bit named once. Assumes nothing.
+use mathlib.Core.Bool.{Bool, true, false, not, _&&_, _||_}
+use Prim.Native.Nat.{ℕ, _/_, _%_}
+use lib.Dec.{eqb}
+use Rattle.common.specs.Choice.{if_then_else_}
+use Rattle.common.specs.declared.Mode.{Mode}
+use Rattle.common.specs.declared.Mode.the-variants.{NoMode, Asynchronous, Sdlc}
+use Rattle.line.specs.Bits.{odd}
+use Rattle.sender.specs.declared.Sending.{Sending}
+use Rattle.receiver.specs.declared.Receiving.{Receiving}
+use Rattle.settings.specs.declared.Registers.{Registers}
+use Rattle.settings.specs.declared.Lines.{Lines}
+
+-- the registers as written, and one of them written anew
+abbrev pub registers : ℕ → ℕ → ℕ → ℕ → ℕ → ℕ → ℕ → Registers
+registers a b c d e f g = record { wr1 = a; wr2 = b; wr3 = c; wr4 = d; wr5 = e; wr6 = f; wr7 = g }
+
+abbrev pub store1 : Registers → ℕ → Registers
+store1 r v = registers v (r .wr2) (r .wr3) (r .wr4) (r .wr5) (r .wr6) (r .wr7)
+
+abbrev pub store2 : Registers → ℕ → Registers
+store2 r v = registers (r .wr1) v (r .wr3) (r .wr4) (r .wr5) (r .wr6) (r .wr7)
+
+abbrev pub store3 : Registers → ℕ → Registers
+store3 r v = registers (r .wr1) (r .wr2) v (r .wr4) (r .wr5) (r .wr6) (r .wr7)
+
+abbrev pub store4 : Registers → ℕ → Registers
+store4 r v = registers (r .wr1) (r .wr2) (r .wr3) v (r .wr5) (r .wr6) (r .wr7)
+
+abbrev pub store5 : Registers → ℕ → Registers
+store5 r v = registers (r .wr1) (r .wr2) (r .wr3) (r .wr4) v (r .wr6) (r .wr7)
+
+abbrev pub store6 : Registers → ℕ → Registers
+store6 r v = registers (r .wr1) (r .wr2) (r .wr3) (r .wr4) (r .wr5) v (r .wr7)
+
+abbrev pub store7 : Registers → ℕ → Registers
+store7 r v = registers (r .wr1) (r .wr2) (r .wr3) (r .wr4) (r .wr5) (r .wr6) v
+
+-- "WR0: D2-0 pointer; D5-3 command ..; D7-6"
+abbrev pub pointerIn : ℕ → ℕ
+pointerIn v = v % 8
+
+abbrev pub commandIn : ℕ → ℕ
+commandIn v = v / 8 % 8
+
+abbrev pub presetIn : ℕ → ℕ
+presetIn v = v / 64
+
+-- "WR1: D0 external, D1 transmit interrupt; D2 status affects vector (B); D4-3 receive: 0 off, 1 first, 2 all with parity special, 3 all."
+abbrev pub externalOn : Registers → Bool
+externalOn r = odd (r .wr1)
+
+abbrev pub transmitOn : ℕ → Bool
+transmitOn wr1 = odd (wr1 / 2)
+
+abbrev pub statusAffects : Registers → Bool
+statusAffects r = odd (r .wr1 / 4)
+
+abbrev pub receiveMode : Registers → ℕ
+receiveMode r = r .wr1 / 8 % 4
+
+-- "WR3: D0 on, D2 address search, D4 enter hunt, D5 auto enables, D7-6 length"
+abbrev pub entersHunt : ℕ → Bool
+entersHunt wr3 = odd (wr3 / 16)
+
+abbrev pub autoEnables : Registers → Bool
+autoEnables r = odd (r .wr3 / 32)
+
+-- "WR4: D0 parity, D1 even, D3-2 stop bits 01 one, 11 two, 00 synchronous; D5-4 10 SDLC."
+abbrev pub stopField : ℕ → ℕ
+stopField wr4 = wr4 / 4 % 4
+
+abbrev pub synchronousField : ℕ → ℕ
+synchronousField wr4 = wr4 / 16 % 4
+
+-- a reset leaves WR4 zero, which no accepted write does: no mode
+unfoldable pub modeOf : ℕ → Mode
+modeOf wr4 = if eqb (stopField wr4) 0 then (if eqb (synchronousField wr4) 2 then Sdlc else NoMode) else Asynchronous
+
+-- refusal 3: "a WR4 write with D7-6 not 00, or D3-2 = 10, or D3-2 = 00 and D5-4 not 10"
+unfoldable pub notBuilt : ℕ → Bool
+notBuilt wr4 = not (eqb (wr4 / 64) 0) || (eqb (stopField wr4) 2 || (eqb (stopField wr4) 0 && not (eqb (synchronousField wr4) 2)))
+
+-- "Lengths: 00 five, 01 seven, 10 six, 11 eight."
+unfoldable pub lengthOf : ℕ → ℕ
+lengthOf field = if eqb field 0 then 5 else (if eqb field 1 then 7 else (if eqb field 2 then 6 else 8))
+
+abbrev pub stopsOf : ℕ → ℕ
+stopsOf wr4 = if eqb (stopField wr4) 3 then 2 else 1
+
+-- 01, Sending: "On means WR5 D3 and, with auto enables, CTS." "WR5: D0 Tx check included, D3 on, D4 break, D6-5 length."
+unfoldable pub sendingOf : Registers → Lines → Sending
+sendingOf r l = record {
+  mode = modeOf (r .wr4);
+  on = odd (r .wr5 / 8) && (not (autoEnables r) || l .cts);
+  included = odd (r .wr5);
+  broken = odd (r .wr5 / 16);
+  length = lengthOf (r .wr5 / 32 % 4);
+  parity = odd (r .wr4);
+  even = odd (r .wr4 / 2);
+  stops = stopsOf (r .wr4);
+}
+
+-- 01, Receiving: "On means WR3 D0 and, with auto enables, DCD." "WR6: address."
+unfoldable pub receivingOf : Registers → Lines → Receiving
+receivingOf r l = record {
+  mode = modeOf (r .wr4);
+  on = odd (r .wr3) && (not (autoEnables r) || l .dcd);
+  search = odd (r .wr3 / 4);
+  address = r .wr6;
+  length = lengthOf (r .wr3 / 64);
+  parity = odd (r .wr4);
+  even = odd (r .wr4 / 2);
+}
