@@ -1,0 +1,210 @@
+// Reads events from standard input, four bytes each, gives them to a chip, and prints for each a line of seven numbers: the refusal, the value
+// given, RR0 and RR1 of A, RR0 and RR1 of B, and RR2 of B after it. All that matters is in the crate chip.
+use chip::Acknowledged;
+use chip::Chip;
+use chip::Outcome;
+ghost use mathlib.Core.Path.{_≡_};
+ghost use lib.ListN.{length};
+
+// An event's code and its three arguments.
+const EVENT: usize = 4;
+
+// The last event code.
+const LAST_CODE: u8 = 9;
+
+// A line has at most this many bytes: seven numbers of three digits, six spaces and a newline.
+const LINE: usize = 28;
+
+// An event has been: its refusal's number, the value it gave, and the chip after it.
+struct Done {
+    number: u8,
+    value: u8,
+    chip: Chip,
+}
+
+fn plain(c: Chip) -> Done {
+    Done {
+        number: 0,
+        value: 0,
+        chip: c,
+    }
+}
+
+fn answered(o: Outcome) -> Done {
+    let w = o.answer;
+    let c = o.chip;
+    Done {
+        number: w.number(),
+        value: w.value(),
+        chip: c,
+    }
+}
+
+fn acknowledged(o: Acknowledged) -> Done {
+    let w = o.acked;
+    let c = o.chip;
+    Done {
+        number: w.number(),
+        value: w.value(),
+        chip: c,
+    }
+}
+
+// One event; codes above the last are not asked for.
+fn step(c: Chip, code: u8, x: u8, y: u8, z: u8) -> Done {
+    match code {
+        0 => plain(Chip::reset()),
+        1 => answered(c.control_write(x, y)),
+        2 => answered(c.control_read(x)),
+        3 => answered(c.data_write(x, y)),
+        4 => answered(c.data_read(x)),
+        5 => answered(c.transmit(x)),
+        6 => answered(c.receive(x, y)),
+        7 => answered(c.set_lines(x, y, z)),
+        8 => acknowledged(c.acknowledge()),
+        _ => plain(c.reti()),
+    }
+}
+
+// A byte of output, where there is room for it; gives the next place.
+fn put(out: &mut [u8], at: usize, v: u8) -> usize {
+    if at < out.len() {
+        out[at] = v;
+        return at + 1;
+    }
+    at
+}
+
+// A number, and the byte behind it.
+fn put_number(out: &mut [u8], at: usize, v: u8, end: u8) -> usize {
+    let ones = b'0' + v % 10;
+    let tens = b'0' + v / 10 % 10;
+    let hundreds = b'0' + v / 100;
+    if v < 10 {
+        let a = put(out, at, ones);
+        return put(out, a, end);
+    }
+    if v < 100 {
+        let a = put(out, at, tens);
+        let b = put(out, a, ones);
+        return put(out, b, end);
+    }
+    let a = put(out, at, hundreds);
+    let b = put(out, a, tens);
+    let d = put(out, b, ones);
+    put(out, d, end)
+}
+
+// Two numbers, each with a space behind it.
+fn put_two(out: &mut [u8], at: usize, x: u8, y: u8) -> usize {
+    let p = put_number(out, at, x, b' ');
+    put_number(out, p, y, b' ')
+}
+
+// The line of an event.
+fn put_line(out: &mut [u8], at: usize, s: Done) -> usize {
+    let c = s.chip;
+    let a = c.a;
+    let b = c.b;
+    let p = put_two(out, at, s.number, s.value);
+    let p = put_two(out, p, a.rr0(c.any_pending()), a.rr1());
+    let p = put_two(out, p, b.rr0(false), b.rr1());
+    put_number(out, p, c.rr2(), b'\n')
+}
+
+// All that waits is written.
+fn flush(out: &[u8], at: usize) {
+    if at <= out.len() {
+        io::write_all(1, &out[0..at]);
+    }
+}
+
+// What waits is written where another line has no room; gives the next place.
+fn flush_full(out: &[u8], at: usize) -> usize {
+    if at <= out.len() {
+        if out.len() - at < LINE {
+            io::write_all(1, &out[0..at]);
+            return 0;
+        }
+    }
+    at
+}
+
+// A word and an event's number.
+fn stop(word: &[u8], i: usize) {
+    io::write_all(1, word);
+    io::print_decimal(1, number_at(i));
+    io::write_all(1, b"\n");
+}
+
+// The number, from 1, of the event at place i.
+fn number_at(i: usize) -> u64 {
+    (i / EVENT + 1) as u64
+}
+
+// The chip so far, and the place of the next byte of output.
+struct Going {
+    chip: Chip,
+    at: usize,
+}
+
+// One event at place i, with its line.
+fn turn(g: Going, events: &[u8], i: usize, out: &mut [u8]) -> Going {
+    let at = g.at;
+    let c = g.chip;
+    if events.len() < EVENT {
+        return g;
+    }
+    if events.len() - EVENT < i {
+        return g;
+    }
+    let s = step(c, events[i], events[i + 1], events[i + 2], events[i + 3]);
+    let p = put_line(out, at, s);
+    let q = flush_full(out, p);
+    let d = s.chip;
+    Going { chip: d, at: q }
+}
+
+// Every event, from a hard reset on.
+fn run(events: &[u8], out: &mut [u8]) {
+    let mut g = Going {
+        chip: Chip::reset(),
+        at: 0,
+    };
+    let mut i = 0;
+    while EVENT <= events.len() - i {
+        if LAST_CODE < events[i] {
+            let at = g.at;
+            flush(out, at);
+            stop(b"unknown ", i);
+            return;
+        }
+        let next = i + EVENT;
+        g = turn(g, events, i, out);
+        i = next;
+    }
+    let at = g.at;
+    flush(out, at);
+    if i < events.len() {
+        stop(b"cut ", i);
+    }
+}
+
+// A byte more than the buffer holds.
+fn goes_on() -> bool {
+    let mut more = [0u8; 1];
+    0 < io::read_full(0, &mut more)
+}
+
+fn main() {
+    let mut buffer = io::large_buffer();
+    let n = io::read_full(0, &mut buffer);
+    if n == 65536 {
+        if goes_on() {
+            io::write_all(1, b"too long\n");
+            return;
+        }
+    }
+    let mut out = io::buffer();
+    run(&buffer[..n], &mut out);
+}
