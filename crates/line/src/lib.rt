@@ -7,9 +7,10 @@ ghost use lib.ListN.{length, drop};
 ghost use lib.Dec.{ltb};
 ghost use lib.Seq.{sets};
 ghost use Rattle.line.specs.Bits.{lowBits, oneIf, cells};
-ghost use Rattle.line.specs.Check.{checkStep, checkOver, checkBits};
+ghost use Rattle.line.specs.Check.{sdlc, checkStep, checkOver, checkBits};
 ghost use Rattle.line.specs.Frame.{flagBits, contentOf, frame, zerosOf, ticksOf};
 ghost use Rattle.line.specs.Insertion.{seen};
+ghost use Rattle.line.specs.Mirror.{mirror};
 ghost use Rattle.line.specs.Line.{noteFits, countOf, writeOf, bufferAfter};
 ghost use Rattle.line.specs.Pen.{taken, moved, laid};
 
@@ -126,22 +127,27 @@ fn put_byte(out: &mut [u8], p: Pen, v: u8) -> Pen
     q
 }
 
-// The check, complemented, x^15 first.
-fn put_check(out: &mut [u8], p: Pen, r: u16) -> Pen
-    requires { ⌜ p .run < 5 ⌝ }
-    requires { ⌜ p .at + taken p (checkBits r) ≤ length (now out) ⌝ }
-    ensures { λ x. ⌜ x ≡ moved p (checkBits r) ⌝ }
-    ensures { λ x. ⌜ now (out .exit) ≡ laid (now (out .entry)) p (checkBits r) ⌝ }
+// The SDLC check's register, held mirrored, after the eight bits of a byte. The byte meets the low half as it stands; that half goes out
+// and comes back at the places of x^12+x^5+1, and the high half moves down.
+fn mirrored_byte(m: u16, v: u8) -> u16
+    ensures { λ r. ⌜ mirror 16 r ≡ checkOver sdlc (mirror 16 m) (lowBits 8 v) ⌝ }
 {
-    let mut q = p;
-    let mut rest = r ^ ONES;
-    let mut left: u8 = 16;
-    while 0 < left {
-        q = put_bit(out, q, rest / 32768 % 2 == 1);
-        rest = rest % 32768 * 2;
-        left = left - 1;
-    }
-    q
+    let x = m ^ (v as u16);
+    let low = x % 256;
+    let y = low ^ (low % 16 * 16);
+    (x / 256) ^ ((y * 256) ^ (y * 8) ^ (y / 16))
+}
+
+// The check, complemented, x^15 first: from a mirrored register, two bytes.
+fn put_check(out: &mut [u8], p: Pen, m: u16) -> Pen
+    requires { ⌜ p .run < 5 ⌝ }
+    requires { ⌜ p .at + taken p (checkBits (mirror 16 m)) ≤ length (now out) ⌝ }
+    ensures { λ x. ⌜ x ≡ moved p (checkBits (mirror 16 m)) ⌝ }
+    ensures { λ x. ⌜ now (out .exit) ≡ laid (now (out .entry)) p (checkBits (mirror 16 m)) ⌝ }
+{
+    let check = m ^ ONES;
+    let q = put_byte(out, p, (check % 256) as u8);
+    put_byte(out, q, (check / 256) as u8)
 }
 
 // The note's bytes, then their check.
@@ -152,15 +158,15 @@ fn put_content(out: &mut [u8], p: Pen, note: &[u8]) -> Pen
     ensures { λ x. ⌜ now (out .exit) ≡ laid (now (out .entry)) p (contentOf (now (note .entry))) ⌝ }
 {
     let mut q = p;
-    let mut r = ONES;
+    let mut m = ONES;
     let mut i = 0;
     while i < note.len() {
         let v = note[i];
         q = put_byte(out, q, v);
-        r = check_byte(SDLC, r, v);
+        m = mirrored_byte(m, v);
         i = i + 1;
     }
-    put_check(out, q, r)
+    put_check(out, q, m)
 }
 
 // A flag, into which no zero is inserted.
