@@ -1,5 +1,4 @@
--- Bits in the other order. The line writer holds the check register so, x^15 lowest: a byte then meets it as it stands, and the check leaves
--- it as two bytes. Assumes nothing.
+-- Bits in the other order. The line writer holds the check register so, x^15 lowest: a byte then meets it as it stands. Assumes nothing.
 use Prim.Native.Nat.{ℕ, zero, suc, _+_, _*_, _/_, _%_, _^_}
 
 -- the low n bits of v, the lowest at the highest place

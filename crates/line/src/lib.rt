@@ -138,16 +138,22 @@ fn mirrored_byte(m: u16, v: u8) -> u16
     (x / 256) ^ ((y * 256) ^ (y * 8) ^ (y / 16))
 }
 
-// The check, complemented, x^15 first: from a mirrored register, two bytes.
+// The check, complemented, x^15 first: from a mirrored register, the lowest first.
 fn put_check(out: &mut [u8], p: Pen, m: u16) -> Pen
     requires { ⌜ p .run < 5 ⌝ }
     requires { ⌜ p .at + taken p (checkBits (mirror 16 m)) ≤ length (now out) ⌝ }
     ensures { λ x. ⌜ x ≡ moved p (checkBits (mirror 16 m)) ⌝ }
     ensures { λ x. ⌜ now (out .exit) ≡ laid (now (out .entry)) p (checkBits (mirror 16 m)) ⌝ }
 {
-    let check = m ^ ONES;
-    let q = put_byte(out, p, (check % 256) as u8);
-    put_byte(out, q, (check / 256) as u8)
+    let mut q = p;
+    let mut rest = m ^ ONES;
+    let mut left: u8 = 16;
+    while 0 < left {
+        q = put_bit(out, q, rest % 2 == 1);
+        rest = rest / 2;
+        left = left - 1;
+    }
+    q
 }
 
 // The note's bytes, then their check.

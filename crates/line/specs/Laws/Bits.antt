@@ -3,10 +3,8 @@ use mathlib.Core.Path.{_≡_, refl, sym, ap, ap₂, _∙_}
 use mathlib.Core.Bool.{Bool, true, false}
 use mathlib.Core.List.{List, [], _∷_, _++_, map, append-assoc}
 use Prim.Native.Nat.{ℕ, zero, suc, _+_, _*_, _/_, _%_, _^_, _≤_, _<_}
-use native.Mathlib.Nat.{pow-suc, mul-zero, mul-suc, mul-comm, zero-add, suc-add, div-one, div-div-eq-div-mul, zero-lt-suc}
+use native.Mathlib.Nat.{pow-suc, mul-zero, mul-suc}
 use native.Mathlib.Omega.{arith}
-use lib.Arith.{mod-mul}
-use lib.Pow.{pow-pos}
 use lib.Dec.{eqb}
 use lib.ListN.{length, take, drop, length-append}
 use lib.Seq.{take-at, drop-at}
@@ -19,17 +17,6 @@ pub lowBits-length : (n v : ℕ) → length (lowBits n v) ≡ n
 unfolding lowBits
 lowBits-length zero v = refl
 lowBits-length (suc n) v = ap suc (lowBits-length n (v / 2))
-
-pub lowBits-split : (n k v : ℕ) → lowBits (n + k) v ≡ lowBits n (v % 2 ^ n) ++ lowBits k (v / 2 ^ n)
-unfolding lowBits
-lowBits-split zero k v = rw (zero-add k, div-one v)
-lowBits-split (suc n) k v =
-    let parts : v % 2 ^ suc n ≡ v / 2 % 2 ^ n * 2 + v % 2 =
-    ap (λ (x : ℕ). v % x) (pow-suc 2 n) ∙ mod-mul v {m = 2 ^ n} {c = 2} (pow-pos n) (zero-lt-suc 1) in
-    let first : v % 2 ≡ v % 2 ^ suc n % 2 = omega arith in
-    let low : v / 2 % 2 ^ n ≡ v % 2 ^ suc n / 2 = omega arith in
-    let high : v / 2 / 2 ^ n ≡ v / 2 ^ suc n = div-div-eq-div-mul v 2 (2 ^ n) ∙ ap (λ (x : ℕ). v / x) (mul-comm 2 (2 ^ n) ∙ sym (pow-suc 2 n)) in
-    rw (suc-add n k, ← first, ← low, ← high) (ap (λ (bs : List Bool). odd v ∷ bs) (lowBits-split n k (v / 2)))
 
 -- the number whose bits these are, the first one lowest
 unfoldable pub fromLow : List Bool → ℕ

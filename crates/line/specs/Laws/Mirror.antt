@@ -1,4 +1,4 @@
--- Laws of the mirrored check register: its bits, a byte at once, and the check as two bytes. Assumes nothing.
+-- Laws of the mirrored check register: its bits, the check as it is sent, and a byte at once. Assumes nothing.
 use mathlib.Core.Path.{_≡_, refl, sym, ap, ap₂, _∙_}
 use mathlib.Core.Bool.{Bool, true, false}
 use mathlib.Core.List.{List, [], _∷_, _++_}
@@ -13,7 +13,7 @@ use Rattle.common.specs.Tools.{two-cases, below, below→}
 use Rattle.line.specs.Bits.{odd, lowBits}
 use Rattle.line.specs.Check.{sdlc, ones, top, shifted, checkStep, checkOver, topBits, checkBits}
 use Rattle.line.specs.Mirror.{mirror}
-use Rattle.line.specs.Laws.Bits.{lowBits-length, lowBits-split}
+use Rattle.line.specs.Laws.Bits.{lowBits-length}
 use Rattle.line.specs.Laws.Check.{check-linear}
 
 mirror-lt : (n v : ℕ) → mirror n v < 2 ^ n
@@ -59,14 +59,14 @@ pub mirror-ones : mirror 16 ones ≡ ones
 unfolding mirror
 mirror-ones = refl
 
--- the check as it is sent is two bytes of content
-pub mirror-sent : (m : ℕ) → checkBits (mirror 16 m) ≡ lowBits 8 (bitXor m ones % 256) ++ lowBits 8 (bitXor m ones / 256)
+-- the check as it is sent
+pub mirror-sent : (m : ℕ) → checkBits (mirror 16 m) ≡ lowBits 16 (bitXor m ones)
 unfolding checkBits
 mirror-sent m =
     let k = bitXor m ones in
     let turned : bitXor (mirror 16 m) ones ≡ mirror 16 k * 2 ^ 0 =
     ap (bitXor (mirror 16 m)) (sym mirror-ones) ∙ sym (mirror-xor 16 m ones) ∙ omega arith in
-    ap (topBits 16) turned ∙ mirror-tops 16 0 k refl ∙ lowBits-split 8 8 k
+    ap (topBits 16) turned ∙ mirror-tops 16 0 k refl
 
 -- two functions that agree on the 256 bytes, computed
 byte-cases : (f g : ℕ → ℕ) → T (below (λ v. eqb (f v) (g v)) 256) → (v : ℕ) → v < 256 → f v ≡ g v
