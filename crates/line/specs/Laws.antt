@@ -2,7 +2,7 @@
 pub mod Bits
 pub mod Xor
 pub mod Check
-pub mod Mirror
 pub mod Insertion
 pub mod Frame
 pub mod Line
+pub mod Mirror

@@ -127,15 +127,16 @@ fn put_byte(out: &mut [u8], p: Pen, v: u8) -> Pen
     q
 }
 
-// The SDLC check's register, held mirrored, after the eight bits of a byte. The byte meets the low half as it stands; that half goes out
-// and comes back at the places of x^12+x^5+1, and the high half moves down.
+// The SDLC check's register, held mirrored, after the eight bits of a byte. The byte meets the low half as it stands. That half goes out and
+// comes back at the places of x^12+x^5+1; through x^12 its low four bits reach its high four before these go out. The high half moves down.
 fn mirrored_byte(m: u16, v: u8) -> u16
     ensures { λ r. ⌜ mirror 16 r ≡ checkOver sdlc (mirror 16 m) (lowBits 8 v) ⌝ }
 {
-    let x = m ^ (v as u16);
-    let low = x % 256;
-    let y = low ^ (low % 16 * 16);
-    (x / 256) ^ ((y * 256) ^ (y * 8) ^ (y / 16))
+    let met = m ^ (v as u16);
+    let low = met % 256;
+    let folded = low ^ (low % 16 * 16);
+    let back = (folded * 256) ^ (folded * 8) ^ (folded / 16);
+    (met / 256) ^ back
 }
 
 // The check, complemented, x^15 first: from a mirrored register, the lowest first.
@@ -146,11 +147,11 @@ fn put_check(out: &mut [u8], p: Pen, m: u16) -> Pen
     ensures { λ x. ⌜ now (out .exit) ≡ laid (now (out .entry)) p (checkBits (mirror 16 m)) ⌝ }
 {
     let mut q = p;
-    let mut rest = m ^ ONES;
+    let mut check = m ^ ONES;
     let mut left: u8 = 16;
     while 0 < left {
-        q = put_bit(out, q, rest % 2 == 1);
-        rest = rest / 2;
+        q = put_bit(out, q, check % 2 == 1);
+        check = check / 2;
         left = left - 1;
     }
     q

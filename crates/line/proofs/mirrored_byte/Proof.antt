@@ -6,17 +6,17 @@ use borrow.Author.Needs.{needs}
 use Rattle.line.proofs.mirrored_byte.Statement.{statement}
 use Rattle.line.proofs.mirrored_byte.Tie as tie
 
-mul-y : tie.Need-mul-y
-mul-y c = search needs
+mul-folded : tie.Need-mul-folded
+mul-folded c = search needs
 
-mul-result : tie.Need-mul-result
-mul-result c = omega (arith, folded-lt (bitXor (c .args .m) (c .args .v)))
+mul-back : tie.Need-mul-back
+mul-back c = omega (arith, folded-lt (bitXor (c .args .m) (c .args .v)))
 
-mul-result-2 : tie.Need-mul-result-2
-mul-result-2 c = omega (arith, folded-lt (bitXor (c .args .m) (c .args .v)))
+mul-back-2 : tie.Need-mul-back-2
+mul-back-2 c = omega (arith, folded-lt (bitXor (c .args .m) (c .args .v)))
 
 returns : tie.Need-returns
 returns c = mirror-byte (c .args .m) (c .args .v) (c .fits .m .fits) (c .fits .v .fits)
 
 pub mirrored-byte-spec : {M : Type 1} → statement M
-mirrored-byte-spec = tie.close (tie.spec mul-y mul-result mul-result-2 returns)
+mirrored-byte-spec = tie.close (tie.spec mul-folded mul-back mul-back-2 returns)
