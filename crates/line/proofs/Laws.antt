@@ -13,7 +13,7 @@ use lib.ListN.{length, length-append, length-drop, set, take, drop, getD, drop-o
 use lib.Seq.{sets, sets-eq, length-sets, drop-cons, take-length, drop-length, drop-drop}
 use Rattle.line.specs.declared.Pen.{Pen}
 use Rattle.line.specs.Bits.{odd, lowBits, textBits, oneIf, cells}
-use Rattle.line.specs.Check.{top, shifted, checkStep, topBits, checkOver, checkBits, complement, sdlc, ones}
+use Rattle.line.specs.Check.{shifted, checkStep, checkOver, checkBits, sdlc}
 use Rattle.line.specs.Insertion.{owes, runAfter, seen, stuff, runOver}
 use Rattle.line.specs.Frame.{flagBits, noteBits, contentOf, frame, ticksOf}
 use Rattle.line.specs.Pen.{taken, moved, laid}
@@ -31,16 +31,6 @@ pub low-none : (n v : ℕ) → n ≤ 0 → lowBits n v ≡ []
 unfolding lowBits
 low-none zero v h = refl
 low-none (suc n) v h = absurd (omega arith)
-
-pub top-step : (n v : ℕ) → 0 < n → topBits n v ≡ top v ∷ topBits (n - 1) (shifted v)
-unfolding topBits
-top-step zero v h = absurd (omega arith)
-top-step (suc n) v h = rw sub-one
-
-pub top-none : (n v : ℕ) → n ≤ 0 → topBits n v ≡ []
-unfolding topBits
-top-none zero v h = refl
-top-none (suc n) v h = absurd (omega arith)
 
 -- a step by a bit that entered at x^15, as that place then reads
 pub step-one : (p r : ℕ) (b : Bool) (x : ℕ) → x ≡ bitXor r (oneIf b * 32768) → x / 32768 % 2 ≡ 1 → bitXor (shifted x) p ≡ checkStep p r b

@@ -5,3 +5,4 @@ pub mod Check
 pub mod Insertion
 pub mod Frame
 pub mod Line
+pub mod Mirror

@@ -4,4 +4,5 @@ pub mod Insertion
 pub mod Frame
 pub mod Line
 pub mod Pen
+pub mod Mirror
 pub mod Laws

@@ -7,9 +7,10 @@ ghost use lib.ListN.{length, drop};
 ghost use lib.Dec.{ltb};
 ghost use lib.Seq.{sets};
 ghost use Rattle.line.specs.Bits.{lowBits, oneIf, cells};
-ghost use Rattle.line.specs.Check.{checkStep, checkOver, checkBits};
+ghost use Rattle.line.specs.Check.{sdlc, checkStep, checkOver, checkBits};
 ghost use Rattle.line.specs.Frame.{flagBits, contentOf, frame, zerosOf, ticksOf};
 ghost use Rattle.line.specs.Insertion.{seen};
+ghost use Rattle.line.specs.Mirror.{mirror};
 ghost use Rattle.line.specs.Line.{noteFits, countOf, writeOf, bufferAfter};
 ghost use Rattle.line.specs.Pen.{taken, moved, laid};
 
@@ -126,19 +127,31 @@ fn put_byte(out: &mut [u8], p: Pen, v: u8) -> Pen
     q
 }
 
-// The check, complemented, x^15 first.
-fn put_check(out: &mut [u8], p: Pen, r: u16) -> Pen
+// The SDLC check's register, held mirrored, after the eight bits of a byte. The byte meets the low half as it stands. That half goes out and
+// comes back at the places of x^12+x^5+1; through x^12 its low four bits reach its high four before these go out. The high half moves down.
+fn mirrored_byte(m: u16, v: u8) -> u16
+    ensures { λ r. ⌜ mirror 16 r ≡ checkOver sdlc (mirror 16 m) (lowBits 8 v) ⌝ }
+{
+    let met = m ^ (v as u16);
+    let low = met % 256;
+    let folded = low ^ (low % 16 * 16);
+    let back = (folded * 256) ^ (folded * 8) ^ (folded / 16);
+    (met / 256) ^ back
+}
+
+// The check, complemented, x^15 first: from a mirrored register, the lowest first.
+fn put_check(out: &mut [u8], p: Pen, m: u16) -> Pen
     requires { ⌜ p .run < 5 ⌝ }
-    requires { ⌜ p .at + taken p (checkBits r) ≤ length (now out) ⌝ }
-    ensures { λ x. ⌜ x ≡ moved p (checkBits r) ⌝ }
-    ensures { λ x. ⌜ now (out .exit) ≡ laid (now (out .entry)) p (checkBits r) ⌝ }
+    requires { ⌜ p .at + taken p (checkBits (mirror 16 m)) ≤ length (now out) ⌝ }
+    ensures { λ x. ⌜ x ≡ moved p (checkBits (mirror 16 m)) ⌝ }
+    ensures { λ x. ⌜ now (out .exit) ≡ laid (now (out .entry)) p (checkBits (mirror 16 m)) ⌝ }
 {
     let mut q = p;
-    let mut rest = r ^ ONES;
+    let mut check = m ^ ONES;
     let mut left: u8 = 16;
     while 0 < left {
-        q = put_bit(out, q, rest / 32768 % 2 == 1);
-        rest = rest % 32768 * 2;
+        q = put_bit(out, q, check % 2 == 1);
+        check = check / 2;
         left = left - 1;
     }
     q
@@ -152,15 +165,15 @@ fn put_content(out: &mut [u8], p: Pen, note: &[u8]) -> Pen
     ensures { λ x. ⌜ now (out .exit) ≡ laid (now (out .entry)) p (contentOf (now (note .entry))) ⌝ }
 {
     let mut q = p;
-    let mut r = ONES;
+    let mut m = ONES;
     let mut i = 0;
     while i < note.len() {
         let v = note[i];
         q = put_byte(out, q, v);
-        r = check_byte(SDLC, r, v);
+        m = mirrored_byte(m, v);
         i = i + 1;
     }
-    put_check(out, q, r)
+    put_check(out, q, m)
 }
 
 // A flag, into which no zero is inserted.

@@ -10,18 +10,20 @@ use denote.Ref.{now}
 use Rattle.line.specs.Bits.{lowBits}
 use Rattle.line.specs.Check.{sdlc, checkOver, checkBits}
 use Rattle.line.specs.Frame.{contentOf}
+use Rattle.line.specs.Mirror.{mirror}
+use Rattle.line.specs.Laws.Mirror.{mirror-ones}
 use Rattle.line.proofs.Laws.{rest, rest-step, rest-none, Same, same-start, same-step, same-fits, same-done}
 use Rattle.line.proofs.put_content.Statement.{statement}
 use Rattle.line.proofs.put_content.Tie as tie
 
 abbrev Inv-loop : tie.InvT-loop
-Inv-loop out₀ note q₀ r₀ i₀ out q r i = Same out₀ q₀ (contentOf note) out q (rest note i r)
+Inv-loop out₀ note q₀ m₀ i₀ out q m i = Same out₀ q₀ (contentOf note) out q (rest note i (mirror 16 m))
 
 abbrev μ-loop : tie.MeasureT-loop
-μ-loop out₀ note q₀ r₀ i₀ out q r i = length note - i
+μ-loop out₀ note q₀ m₀ i₀ out q m i = length note - i
 
 loop-holds : tie.Need-loop-holds Inv-loop μ-loop
-loop-holds c = same-start (c .before .before .pre .0)
+loop-holds c = rw mirror-ones (same-start (c .before .before .pre .0))
 
 shared-slice-read-v : tie.Need-shared-slice-read-v Inv-loop μ-loop
 shared-slice-read-v c = omega arith
@@ -31,11 +33,12 @@ put-byte-requires c κs =
     let l = c .before .before .before .loop in
     let note = now (c .before .before .before .before .before .before .args .note) in
     let v = getD note (l .i) 0 in
-    let s = rw (rest-step note (l .i) (l .r) (c .before .before .loop-test .taken)) at (l .inv) in
-    same-fits (lowBits 8 v) (rest note (l .i + 1) (checkOver sdlc (l .r) (lowBits 8 v))) s (c .before .before .before .before .before .before .pre .1)
+    let r = mirror 16 (l .m) in
+    let s = rw (rest-step note (l .i) r (c .before .before .loop-test .taken)) at (l .inv) in
+    same-fits (lowBits 8 v) (rest note (l .i + 1) (checkOver sdlc r (lowBits 8 v))) s (c .before .before .before .before .before .before .pre .1)
 
-check-byte-requires : tie.Need-check-byte-requires Inv-loop μ-loop
-check-byte-requires c κs = search needs
+mirrored-byte-requires : tie.Need-mirrored-byte-requires Inv-loop μ-loop
+mirrored-byte-requires c κs = search needs
 
 add-i : tie.Need-add-i Inv-loop μ-loop
 add-i c = omega arith
@@ -49,17 +52,19 @@ loop-again c =
     let l = b .before .loop in
     let note = now (b .before .before .before .before .args .note) in
     let v = getD note (l .i) 0 in
-    let s = rw (rest-step note (l .i) (l .r) (b .loop-test .taken)) at (l .inv) in
+    let r = mirror 16 (l .m) in
+    let s = rw (rest-step note (l .i) r (b .loop-test .taken)) at (l .inv) in
     let e = c .before .before .before .put-byte .ensures in
-    rw (c .check-byte .ensures)
-    (same-step (lowBits 8 v) (rest note (l .i + 1) (checkOver sdlc (l .r) (lowBits 8 v))) s (e .0) (e .1))
+    rw (c .mirrored-byte .ensures)
+    (same-step (lowBits 8 v) (rest note (l .i + 1) (checkOver sdlc r (lowBits 8 v))) s (e .0) (e .1))
 
 put-check-requires : tie.Need-put-check-requires Inv-loop μ-loop
 put-check-requires c κs =
     let l = c .before .before .loop in
     let note = now (c .before .before .before .before .before .args .note) in
-    let s = rw (rest-none note (l .i) (l .r) (c .before .loop-test .left), ← append-nil (checkBits (l .r))) at (l .inv) in
-    same-fits (checkBits (l .r)) [] s (c .before .before .before .before .before .pre .1)
+    let r = mirror 16 (l .m) in
+    let s = rw (rest-none note (l .i) r (c .before .loop-test .left), ← append-nil (checkBits r)) at (l .inv) in
+    same-fits (checkBits r) [] s (c .before .before .before .before .before .pre .1)
 
 same-length : tie.Need-same-length Inv-loop μ-loop
 same-length c = search needs
@@ -69,9 +74,10 @@ returns c =
     let b = c .before .before .before .before in
     let l = b .before .loop in
     let note = now (b .before .before .before .before .args .note) in
-    let s = rw (rest-none note (l .i) (l .r) (b .loop-test .left), ← append-nil (checkBits (l .r))) at (l .inv) in
+    let r = mirror 16 (l .m) in
+    let s = rw (rest-none note (l .i) r (b .loop-test .left), ← append-nil (checkBits r)) at (l .inv) in
     let e = c .before .before .put-check .ensures in
-    same-done (same-step (checkBits (l .r)) [] s (e .0) (e .1))
+    same-done (same-step (checkBits r) [] s (e .0) (e .1))
 
 pub put-content-spec : {M : Type 1} → statement M
 put-content-spec =
@@ -82,7 +88,7 @@ put-content-spec =
     loop-holds
     shared-slice-read-v
     put-byte-requires
-    check-byte-requires
+    mirrored-byte-requires
     add-i
     loop-less
     loop-again
