@@ -1,7 +1,7 @@
 -- A channel reset gives what a history gives, and every event of a channel keeps it. Assumes nothing.
 use mathlib.Core.Path.{_≡_, refl, sym}
 use mathlib.Core.Bool.{Bool, true, false, not, _&&_, true≢false}
-use Prim.Native.Nat.{ℕ, _%_, _≤_}
+use Prim.Native.Nat.{ℕ, _≤_}
 use native.Mathlib.Omega.{arith}
 use lib.Dec.{T, eqb}
 use Rattle.common.specs.Choice.{if_then_else_}
@@ -37,7 +37,7 @@ use Rattle.channel.specs.declared.DataRead.{DataRead}
 use Rattle.channel.specs.Channel.{withRegisters, withSender, withReceiver, withQueue, withLines, withPointer, settled, resetWith}
 use Rattle.channel.specs.Control.{commanded, preset, commandStep, presetStep, writeWr0, setWr1, setWr2, setWr3, sameMode, setWr4, setRegister, controlWritten, controlRead}
 use Rattle.channel.specs.Events.{dataWritten, dataRead, afterTick, transmitTick, queued, heardBy, receiveTick, linesSet}
-use Rattle.channel.specs.Sound.{has, SoundParts, SoundChannel}
+use Rattle.channel.specs.Sound.{has, SoundChannel}
 
 -- The unit on the line is one that the mode has
 
