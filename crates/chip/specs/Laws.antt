@@ -2,3 +2,4 @@
 pub mod Sound
 pub mod Isolation
 pub mod Refusals
+pub mod Priority

@@ -1,13 +1,10 @@
 -- 01, Events: the table of refusals, rows 1 to 4, and the rows that each event knows. Assumes nothing.
-use mathlib.Core.Bool.{Bool, true, false, not, _&&_, _||_}
+use mathlib.Core.Bool.{Bool, not, _&&_, _||_}
 use mathlib.Core.List.{List, [], _∷_}
-use mathlib.Core.Path.{_≡_}
-use Prim.Native.Nat.{ℕ, _<_}
+use Prim.Native.Nat.{ℕ}
 use lib.Dec.{eqb, leb}
 use Rattle.common.specs.Choice.{if_then_else_}
 use Rattle.settings.specs.Settings.{notBuilt}
-use Rattle.channel.specs.declared.Sources.{Sources}
-use Rattle.channel.specs.Events.{pendingIn}
 use Rattle.chip.specs.declared.Chip.{Chip}
 use Rattle.chip.specs.Interrupts.{mayTake}
 use Rattle.chip.specs.Event.{Event, HardReset, ControlWrite, ControlRead, DataWrite, DataRead, Transmit, Receive, SetLines, Acknowledge, Reti}
@@ -34,7 +31,7 @@ pointerOf c ch = if eqb ch 0 then c .a .pointer else c .b .pointer
 abbrev pub settingNotBuilt : Chip → ℕ → ℕ → Row
 settingNotBuilt c ch v = (3, eqb (pointerOf c ch) 4 && notBuilt v)
 
--- 4: "acknowledge with no pending source above all those in service"
+-- 4: "acknowledge with no pending source above all those in service"; Laws/Priority.antt has it in just these words
 abbrev pub nothingAbove : Chip → Row
 nothingAbove c = (4, not (mayTake c))
 
@@ -55,22 +52,3 @@ rowsOf c Reti = []
 abbrev pub firstRow : List Row → ℕ
 firstRow [] = 0
 firstRow (r ∷ rs) = if r .1 then r .0 else firstRow rs
-
--- What row 4 says, without the levels of Interrupts.antt: the source at a place in the order of priority, from A's receive down to B's external
-abbrev pub sourceAt : Sources → Sources → ℕ → Bool
-sourceAt a b k =
-    if eqb k 0 then a .receive else (if eqb k 1 then a .transmit else (if eqb k 2 then a .external
-    else (if eqb k 3 then b .receive else (if eqb k 4 then b .transmit else (if eqb k 5 then b .external
-    else false)))))
-
-abbrev pub pendingAt : Chip → ℕ → Bool
-pendingAt c k = sourceAt (pendingIn (c .a)) (pendingIn (c .b)) k
-
-abbrev pub servedAt : Chip → ℕ → Bool
-servedAt c k = sourceAt (c .a .service) (c .b .service) k
-
--- "a pending source above all those in service"
-pub record Above (c : Chip) : Type 0 where
-  pub source : ℕ
-  pub pending : pendingAt c source ≡ true
-  pub highest : (k : ℕ) → servedAt c k ≡ true → source < k

@@ -1,32 +1,31 @@
 -- A call is refused with the number of the first row of the paper's table that holds, and with none if none does; a refused call changes nothing.
--- Row 4 holds exactly when no pending source lies above all those in service. Assumes nothing.
-use mathlib.Core.Path.{_≡_, refl, sym, ap, _∙_}
+-- Assumes nothing.
+use mathlib.Core.Path.{_≡_, refl, ap, _∙_}
 use mathlib.Core.Logic.{_≢_, _⊎_, inl, inr, ⊎-elim}
-use mathlib.Core.Bool.{Bool, true, false, not, _&&_, _||_, true≢false}
+use mathlib.Core.Bool.{Bool, true, false, not, _&&_, _||_}
 use mathlib.Core.List.{List, [], _∷_}
-use Prim.Native.Nat.{ℕ, zero, suc, _≤_, _<_}
+use Prim.Native.Nat.{ℕ, zero, suc}
 use native.Mathlib.Omega.{arith}
-use lib.Dec.{T, eqb, ltb, leb}
-use borrow.Author.Tests.{eqb-true, ltb-true, lt-ltb, le-leb, ne-eqb}
+use lib.Dec.{eqb, leb}
+use borrow.Author.Tests.{eqb-true, le-leb, ne-eqb}
 use Rattle.common.specs.Choice.{if_then_else_}
-use Rattle.common.specs.Tools.{if-elim, by-test, bool-or, eqb-elim, both-of, both-of→, below, below→, lt-or}
+use Rattle.common.specs.Tools.{if-elim, by-test, bool-or}
 use Rattle.common.specs.declared.Refusal.the-variants as refusal
 use Rattle.settings.specs.Settings.{commandIn, notBuilt}
 use Rattle.channel.specs.declared.Side.{Side}
 use Rattle.channel.specs.declared.Side.the-variants.{A, B}
-use Rattle.channel.specs.declared.Sources.{Sources}
 use Rattle.channel.specs.declared.Channel.{Channel}
 use Rattle.channel.specs.declared.Answered.{Answered}
 use Rattle.channel.specs.Answer.{answerNumber}
 use Rattle.channel.specs.Control.{controlWritten}
-use Rattle.channel.specs.Events.{pendingIn, transmitTick}
+use Rattle.channel.specs.Events.{transmitTick}
 use Rattle.chip.specs.declared.Chip.{Chip}
 use Rattle.chip.specs.declared.Outcome.{Outcome}
 use Rattle.chip.specs.declared.Acknowledged.{Acknowledged}
-use Rattle.chip.specs.Interrupts.{chip, highestOf, pendingLevel, serviceLevel, mayTake, acknowledge, reti}
+use Rattle.chip.specs.Interrupts.{chip, mayTake, acknowledge, reti}
 use Rattle.chip.specs.Chip.{outcome, refused, inA, inB, byChannel, endsService, controlWriteA, controlWrite, controlReadCall, dataWriteCall, dataReadCall, transmitCall, receiveCall, linesCall}
 use Rattle.chip.specs.Event.{Event, HardReset, ControlWrite, ControlRead, DataWrite, DataRead, Transmit, Receive, SetLines, Acknowledge, Reti, ackedAnswer, step}
-use Rattle.chip.specs.Refusals.{Row, channelAbove, bitAbove, linesAbove, settingNotBuilt, rowsOf, firstRow, sourceAt, pendingAt, servedAt, Above}
+use Rattle.chip.specs.Refusals.{Row, channelAbove, bitAbove, linesAbove, settingNotBuilt, rowsOf, firstRow}
 use Rattle.chip.specs.Laws.Isolation.{reti-service}
 
 abbrev numberIn : Outcome → ℕ
@@ -36,7 +35,7 @@ numberIn r = answerNumber (r .answer)
 
 -- row 1, then what the channel's own call says
 by-channel-number : (c : Chip) (ch : ℕ) (a b : Outcome) (rows : ℕ → List Row) → numberIn a ≡ firstRow (rows 0) → numberIn b ≡ firstRow (rows 1)
-  → numberIn (byChannel c ch a b) ≡ firstRow (channelAbove ch ∷ rows ch)
+    → numberIn (byChannel c ch a b) ≡ firstRow (channelAbove ch ∷ rows ch)
 by-channel-number c zero a b rows p q = p
 by-channel-number c (suc zero) a b rows p q = q
 by-channel-number c (suc (suc n)) a b rows p q =
@@ -150,17 +149,3 @@ kept c Reti = inl refl
 -- "A refusal changes nothing, the register pointer included"
 pub refused-changes-nothing : (c : Chip) (e : Event) → answerNumber (step c e .answer) ≢ 0 → step c e .chip ≡ c
 refused-changes-nothing c e refused = ⊎-elim (λ z. absurd (refused z)) (λ same. same) (kept c e)
-
--- Row 4
-
--- the highest of six sources, by trying all of them: it is one of them, unless none is, and no other stands above it
-abbrev highestIs : Bool → Bool → Bool → Bool → Bool → Bool → Bool
-highestIs p q r s t u =
-    let a : Sources = record { receive = p; transmit = q; external = r } in
-    let b : Sources = record { receive = s; transmit = t; external = u } in
-    let n = highestOf a b in
-    (sourceAt a b n || eqb n 6) && below (λ k. not (sourceAt a b k) || leb n k) 6
-
-every-six : T (both-of (λ p. both-of (λ q. both-of (λ r. both-of (λ s. both-of (λ t. both-of (λ u. highestIs p q r s t u)))))))
-unfolding highestOf
-every-six = tt
