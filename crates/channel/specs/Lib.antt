@@ -3,3 +3,5 @@ pub mod Status
 pub mod Channel
 pub mod Control
 pub mod Events
+pub mod Sound
+pub mod Laws

@@ -1,0 +1,94 @@
+-- 01, Marked examples: "Prove these together as a single table". Each row has the example's number, what the definitions give and what the paper
+-- says, numbers in a list: bits of a line, values that calls gave, and for the examples of the list program the bytes of its report.
+-- Assumes nothing.
+use mathlib.Core.List.{List, [], _∷_, _++_}
+use Prim.Native.Nat.{ℕ}
+use Rattle.line.specs.Bits.{cells}
+use Rattle.line.specs.Frame.{frame}
+use Rattle.chip.specs.declared.Chip.{Chip}
+use Rattle.chip.specs.Chip.{hardReset}
+use Rattle.chip.specs.Event.{Event, ControlWrite, ControlRead, DataWrite, DataRead, Acknowledge, Reti}
+use Rattle.examples.specs.Run.{after, given, ticks, heard, wired, digits}
+
+pub record Example : Type 0 where
+  pub number : ℕ
+  pub gives : List ℕ
+  pub says : List ℕ
+
+abbrev pub example : ℕ → List ℕ → List ℕ → Example
+example n x y = record { number = n; gives = x; says = y }
+
+-- a register is written: WR0 takes its number, then it its value
+abbrev pub sets : ℕ → ℕ → ℕ → List Event
+sets ch register v = ControlWrite ch register ∷ ControlWrite ch v ∷ []
+
+-- SDLC, sender on with the check included, its latch cleared; receiver on
+abbrev pub sdlcSender : List Event
+sdlcSender = sets 0 4 0b00100000 ++ (sets 0 5 0b00001001 ++ (ControlWrite 0 0b11000000 ∷ []))
+
+abbrev pub sdlcReceiver : List Event
+sdlcReceiver = sets 0 4 0b00100000 ++ sets 0 3 0b00000001
+
+-- the line of a chip whose A is set so and given this byte, n ticks long
+abbrev pub lineOf : List Event → ℕ → ℕ → List ℕ
+lineOf setting v n = given (after hardReset (setting ++ (DataWrite 0 v ∷ []))) (ticks n 0)
+
+abbrev pub flag : List ℕ
+flag = digits 8 0b01111110
+
+-- 1. "Byte 00: 01111110 00000000 00011110 00001111 01111110, 40 ticks."
+abbrev pub line1 : List ℕ
+line1 = flag ++ (digits 8 0b00000000 ++ (digits 8 0b00011110 ++ (digits 8 0b00001111 ++ flag)))
+
+-- 2. "FF: 111110111 00000000 111110111 between flags, 42."
+abbrev pub line2 : List ℕ
+line2 = flag ++ (digits 9 0b111110111 ++ (digits 8 0b00000000 ++ (digits 9 0b111110111 ++ flag)))
+
+-- 3. "88: 00010001 00011100 00011111 0 between flags, 41."
+abbrev pub line3 : List ℕ
+line3 = flag ++ (digits 8 0b00010001 ++ (digits 8 0b00011100 ++ (digits 8 0b00011111 ++ (digits 1 0b0 ++ flag))))
+
+-- 4. "Frame 2 received: FF, 00, FF; the last ends, good.": two bytes, then RR1 with the end and no error, then the last
+abbrev pub hears2 : Chip
+hears2 = after hardReset (sdlcReceiver ++ heard 0 line2)
+
+abbrev pub reads4 : List Event
+reads4 = DataRead 0 ∷ DataRead 0 ∷ ControlWrite 0 1 ∷ ControlRead 0 ∷ DataRead 0 ∷ []
+
+-- 5. "Asynchronous 41, eight bits, one stop: 0 10000010 1."
+abbrev pub eightBits : List Event
+eightBits = sets 0 4 0b00000100 ++ sets 0 5 0b01101000
+
+-- a byte that A sends is read in B: both are set so, and A's line is B's for these ticks
+abbrev pub readsBack : List Event → ℕ → ℕ → List ℕ
+readsBack setting v n = given (wired n (after hardReset (setting ++ (DataWrite 0 v ∷ [])))) (DataRead 1 ∷ [])
+
+-- 6. "41, seven bits, odd parity: reads C1."
+abbrev pub sevenOdd : List Event
+sevenOdd = sets 0 4 0b00000101 ++ (sets 0 5 0b00101000 ++ (sets 1 4 0b00000101 ++ sets 1 3 0b01000001))
+
+-- 7. "01, five bits, even: reads E1."
+abbrev pub fiveEven : List Event
+fiveEven = sets 0 4 0b00000111 ++ (sets 0 5 0b00001000 ++ (sets 1 4 0b00000111 ++ sets 1 3 0b00000001))
+
+-- 8. "WR2 = E0, status on, A special: EE; none pending: RR2 E6.": A's last byte, which ends its frame, waits; then it is read and its service ended
+abbrev pub special8 : Chip
+special8 = after hears2 (sets 1 2 0xE0 ++ (sets 1 1 0b00000100 ++ (sets 0 1 0b00011000 ++ (DataRead 0 ∷ DataRead 0 ∷ []))))
+
+abbrev pub asks8 : List Event
+asks8 = Acknowledge ∷ DataRead 0 ∷ Reti ∷ ControlWrite 1 2 ∷ ControlRead 1 ∷ []
+
+abbrev pub examples : List Example
+examples =
+    example 1 (lineOf sdlcSender 0x00 40) line1
+    ∷ example 1 (cells (frame (0x00 ∷ []))) line1
+    ∷ example 2 (lineOf sdlcSender 0xFF 42) line2
+    ∷ example 2 (cells (frame (0xFF ∷ []))) line2
+    ∷ example 3 (lineOf sdlcSender 0x88 41) line3
+    ∷ example 3 (cells (frame (0x88 ∷ []))) line3
+    ∷ example 4 (given hears2 reads4) (0xFF ∷ 0x00 ∷ 0 ∷ 0x87 ∷ 0xFF ∷ [])
+    ∷ example 5 (lineOf eightBits 0x41 10) (digits 1 0b0 ++ (digits 8 0b10000010 ++ digits 1 0b1))
+    ∷ example 6 (readsBack sevenOdd 0x41 10) (0xC1 ∷ [])
+    ∷ example 7 (readsBack fiveEven 0x01 8) (0xE1 ∷ [])
+    ∷ example 8 (given special8 asks8) (0xEE ∷ 0xFF ∷ 0 ∷ 0 ∷ 0xE6 ∷ [])
+    ∷ []
