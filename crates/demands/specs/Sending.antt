@@ -1,0 +1,3 @@
+-- Demand 3, sending: its statement, the laws that it stands on, and its proof.
+pub mod Side
+pub mod Quiet
