@@ -1,3 +1,5 @@
 -- Demand 3, sending: its statement, the laws that it stands on, and its proof.
 pub mod Side
 pub mod Quiet
+pub mod Statement
+pub mod Frame
