@@ -3,3 +3,7 @@ pub mod Side
 pub mod Quiet
 pub mod Statement
 pub mod Frame
+pub mod Shown
+pub mod Underrun
+pub mod Timely
+pub mod Example

@@ -5,16 +5,19 @@ use mathlib.Core.Bool.{Bool, true, false}
 use mathlib.Core.List.{List, [], _∷_, _++_}
 use Prim.Native.Nat.{ℕ, _+_, _-_, _*_, _/_, _≤_}
 use lib.ListN.{length, take}
+use Rattle.line.specs.Bits.{odd}
 use Rattle.line.specs.Check.{ones}
 use Rattle.line.specs.Frame.{frame, zerosOf}
-use Rattle.sender.specs.declared.LineUnit.the-variants.{Flag}
+use Rattle.sender.specs.declared.LineUnit.{LineUnit}
+use Rattle.sender.specs.declared.LineUnit.the-variants.{Mark, Flag, Byte, Check, Abort, Character}
 use Rattle.sender.specs.Sound.{SoundSender}
+use Rattle.channel.specs.Answer.{answerValue}
 use Rattle.chip.specs.declared.Chip.{Chip}
-use Rattle.chip.specs.Event.{Event, DataWrite, Transmit, step}
+use Rattle.chip.specs.Event.{Event, ControlRead, DataWrite, Transmit, step}
 use Rattle.come.specs.Come.{Good}
 use Rattle.come.specs.Stage.{sinceAfter, inTime}
 use Rattle.come.specs.Start.{flagHead}
-use Rattle.demands.specs.Story.{Which, number, chan}
+use Rattle.demands.specs.Story.{Which, number, chan, after}
 use Rattle.demands.specs.Sending.Side.{SenderSide, sendingIn, sideOf, fullOf, latchOf, Role, Else, role, lineOf, ticks}
 
 -- "Start during a flag with the SDLC sender on .., buffer empty, check preset to ones and included, underrun latch cleared, no break since it
@@ -59,3 +62,74 @@ FrameBegun = (w : Which) (c : Chip) (p v : ℕ) (vs left : List ℕ) (st : List 
 -- "at most 8(n+2)/5 rounded down"
 abbrev pub ZerosFew : Type 0
 ZerosFew = (note : List ℕ) → zerosOf note ≤ 8 * (length note + 2) / 5
+
+-- "If the buffer is empty at the first tick after a byte and any owed zero": the chip before that tick
+pub record RunsDry (w : Which) (c : Chip) : Type 0 where
+  pub last : ℕ
+  pub byte : chan w c .sender .unit ≡ Byte 0 last
+  pub paid : chan w c .sender .core .owed ≡ false
+  pub empty : fullOf w c ≡ false
+  pub cleared : latchOf w c ≡ false
+  pub settings : Good (sendingIn (chan w c))
+
+-- RR0 D6, as a control read gives it
+abbrev pub d6 : Which → Chip → Bool
+d6 w c = odd (answerValue (step c (ControlRead (number w)) .answer) / 64)
+
+abbrev pub statusLatched : Which → Chip → Bool
+statusLatched w c = chan w c .status .latched
+
+-- "the underrun latch is set on that tick, shown then unless status was latched", in which case D6 reads as before
+pub record Underrun (w : Which) (c : Chip) : Type 0 where
+  pub was : latchOf w c ≡ false
+  pub set : latchOf w (step c (Transmit (number w)) .chip) ≡ true
+  pub shown : statusLatched w c ≡ false → d6 w (step c (Transmit (number w)) .chip) ≡ true
+  pub held : statusLatched w c ≡ true → d6 w (step c (Transmit (number w)) .chip) ≡ d6 w c
+
+abbrev pub UnderrunShown : Type 0
+UnderrunShown = (w : Which) (c : Chip) → chan w c .pointer ≡ 0 → RunsDry w c → Underrun w c
+
+-- a host that ticks and writes as it likes, in time or not; all else leaves the sender's side as it is
+pub data Free (w : Which) : Chip → List Event → Type 0 where
+  ended : {c : Chip} → Free w c []
+  still : {c : Chip} {e : Event} {st : List Event} → role w e ≡ Else → sideOf w (step c e .chip) ≡ sideOf w c → Free w (step c e .chip) st → Free w c (e ∷ st)
+  writes : {c : Chip} {v : ℕ} {st : List Event} → Free w (step c (DataWrite (number w) v) .chip) st → Free w c (DataWrite (number w) v ∷ st)
+  ticking : {c : Chip} {st : List Event} → Free w (step c (Transmit (number w)) .chip) st → Free w c (Transmit (number w) ∷ st)
+
+-- "the frame holds just the bytes loaded so far": the line runs dry behind the story xs, and the host does as it likes from there on
+abbrev pub FedLate : Type 0
+FedLate = (w : Which) (c : Chip) (p v : ℕ) (vs : List ℕ) (xs ys : List Event) → Start w c p → InTime w [] c (p - 1) (v ∷ vs) xs → RunsDry w (after c xs)
+    → Free w (step (after c xs) (Transmit (number w)) .chip) ys
+    → p + ticks w (xs ++ (Transmit (number w) ∷ ys)) ≡ 8 * (length (v ∷ vs) + 2) + 16 + zerosOf (v ∷ vs)
+    → flagHead p ++ lineOf w c (xs ++ (Transmit (number w) ∷ ys)) ≡ frame (v ∷ vs)
+
+-- and D6 reads 1 from that tick on, at every moment until the host clears the latch: the incident cannot happen to a host whose status was
+-- not latched when the line ran dry
+abbrev pub NoIncident : Type 0
+NoIncident = (w : Which) (c : Chip) (ys : List Event) → RunsDry w c → statusLatched w c ≡ false → Free w (step c (Transmit (number w)) .chip) ys
+    → let d = after c (Transmit (number w) ∷ ys) in chan w d .pointer ≡ 0 → d6 w d ≡ true
+
+-- The same for every story of a host that ticks and writes as it likes and whose status is not latched at a tick while the latch is clear:
+-- as long as it reads D6 as 0, no bit of a check and none of a closing flag has gone out
+pub data Watched (w : Which) : Chip → List Event → Type 0 where
+  ended : {c : Chip} → Watched w c []
+  still : {c : Chip} {e : Event} {st : List Event} → role w e ≡ Else → sideOf w (step c e .chip) ≡ sideOf w c → Watched w (step c e .chip) st → Watched w c (e ∷ st)
+  writes : {c : Chip} {v : ℕ} {st : List Event} → Watched w (step c (DataWrite (number w) v) .chip) st → Watched w c (DataWrite (number w) v ∷ st)
+  ticking : {c : Chip} {st : List Event} → (latchOf w c ≡ false → statusLatched w c ≡ false) → Watched w (step c (Transmit (number w)) .chip) st
+      → Watched w c (Transmit (number w) ∷ st)
+
+-- an opening flag or a byte is under way
+abbrev pub opens : LineUnit → Bool
+opens Mark = false
+opens (Flag n) = true
+opens (Byte n v) = true
+opens (Check n v) = false
+opens (Abort n) = false
+opens (Character n v) = false
+
+abbrev pub NotClosed : Which → Chip → Type 0
+NotClosed w c = (latchOf w c ≡ false) × (opens (chan w c .sender .unit) ≡ true)
+
+abbrev pub NeverUnseen : Type 0
+NeverUnseen = (w : Which) (c : Chip) (p : ℕ) (st : List Event) → Start w c p → Watched w c st → chan w (after c st) .pointer ≡ 0
+    → d6 w (after c st) ≡ false → NotClosed w (after c st)
