@@ -18,6 +18,7 @@ use Rattle.line.specs.Laws.Xor.{xor-assoc, xor-low, not-differs}
 use Rattle.line.specs.Laws.Check.{check-join, step-xor, check-linear, step-lt, checkBits-length}
 use Rattle.line.specs.Laws.Frame.{content-good}
 use Rattle.receiver.specs.Sdlc.{shiftIn}
+use Rattle.demands.specs.Receiving.Statement.{checkBytes, withCheck}
 
 -- A byte
 
@@ -45,14 +46,6 @@ pub byte-lt : (bs : List Bool) → length bs ≡ 8 → fromLow bs < 256
 byte-lt bs e = rw e at (fromLow-lt bs)
 
 -- The check as two bytes
-
--- the first bit of each lowest
-unfoldable pub checkBytes : ℕ → List ℕ
-checkBytes r = fromLow (take 8 (checkBits r)) ∷ fromLow (drop 8 (checkBits r)) ∷ []
-
--- what a receiver of a note gives back: "its bytes, its check"
-abbrev pub withCheck : List ℕ → List ℕ
-withCheck note = note ++ checkBytes (checkOf note)
 
 first-eight : (r : ℕ) → length (take 8 (checkBits r)) ≡ 8
 first-eight r = rw (length-take 8 (checkBits r), checkBits-length r)

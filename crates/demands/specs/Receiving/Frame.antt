@@ -20,20 +20,21 @@ use Rattle.line.specs.Laws.Check.{check-join}
 use Rattle.queue.specs.declared.Entry.{Entry}
 use Rattle.queue.specs.Entry.{plainEntry}
 use Rattle.queue.specs.Laws.{entryIf}
-use Rattle.receiver.specs.State.{Receiving, Chars, Content, Receiver, Heard, chars, freshChars, emptyDelay, fullDelay, content, receiver, following, heard, silent}
+use Rattle.receiver.specs.declared.Receiving.{Receiving}
+use Rattle.receiver.specs.declared.Chars.{Chars}
+use Rattle.receiver.specs.declared.Content.{Content}
+use Rattle.receiver.specs.declared.Receiver.{Receiver}
+use Rattle.receiver.specs.declared.Heard.{Heard}
+use Rattle.receiver.specs.State.{chars, freshChars, emptyDelay, fullDelay, content, receiver, following, heard, silent}
 use Rattle.receiver.specs.Sdlc.{shiftIn, lastBit, accept, push, closing, past, one, zeroBit}
 use Rattle.receiver.specs.Receiver.{hear}
-use Rattle.demands.specs.Receiving.Bytes.{assembled, assembled-whole, withCheck, content-bytes, withCheck-below, withCheck-good}
+use Rattle.demands.specs.Receiving.Statement.{Start, in-hunt, past-flag, withCheck, ended, framed, framesOf, allEnded, Notes, no-more, one-more}
+use Rattle.demands.specs.Receiving.Bytes.{assembled, assembled-whole, content-bytes, withCheck-below, withCheck-good}
 use Rattle.demands.specs.Receiving.Heard.{handed, Final, final, before, hearAll, hear-join}
 
 -- in SDLC, on, address search off; all else as set
 abbrev pub listening : Receiving → Receiving
 listening g = record { mode = Sdlc; on = true; search = false; address = g .address; length = g .length; parity = g .parity; even = g .even }
-
--- "in hunt or just past a flag"
-pub data Start (s : Receiver) : Type 0 where
-  in-hunt : s .content .hunt ≡ true → Start s
-  past-flag : s .content ≡ past s .content → Start s
 
 -- The characters: what a bit that leaves the delay does, and what a flag then does
 
@@ -243,12 +244,7 @@ module _ (h : Receiving) (s : Receiver) where
 
 -- The bytes
 
--- entries of these bytes, the last alone with the end mark, and a check that is bad or not
-unfoldable pub ended : Bool → List ℕ → List Entry
-ended bad [] = []
-ended bad (v ∷ []) = plainEntry v true bad ∷ []
-ended bad (v ∷ x ∷ vs) = plainEntry v false false ∷ ended bad (x ∷ vs)
-
+-- the check is bad unless it leaves the remainder
 abbrev pub badIf : ℕ → Bool
 badIf k = not (eqb k remainder)
 
@@ -281,11 +277,7 @@ fresh-in v {vs} (more l bs) =
 
 -- The whole line
 
--- between flags
-abbrev pub framed : List Bool → List Bool
-framed bs = flagBits ++ (stuff 0 bs ++ flagBits)
-
-module _ (h : Receiving) {s : Receiver} where
+module _ (h : Receiving) (s : Receiver) where
   opening : Start s → (tail : List Bool) → hearAll (listening h) s (flagBits ++ tail) ≡ hearAll (listening h) (past s) tail
   opening t tail =
       hear-join (listening h) s flagBits tail
@@ -312,3 +304,15 @@ module _ (h : Receiving) {s : Receiver} where
   pub frame-heard : (note : List ℕ) → 1 ≤ length note → Start s → Below 256 note → hearAll (listening h) s (frame note) ≡ final (past s) (ended false (withCheck note))
   frame-heard [] n t b = absurd (omega arith)
   frame-heard (v ∷ vs) n t b = opening t (stuff 0 (contentOf (v ∷ vs)) ++ flagBits) ∙ note-past v b
+
+  -- several notes: each closing flag is the next one's opening flag
+  notes-past : {ns : List (List ℕ)} → Notes ns → hearAll (listening h) (past s) (framesOf ns) ≡ final (past s) (allEnded ns)
+  unfolding framesOf allEnded
+  notes-past no-more = unfold hearAll in refl
+  notes-past (one-more {v = v} {vs = vs} {ns = ns} b n) =
+      hear-join (listening h) (past s) (stuff 0 (contentOf (v ∷ vs)) ++ flagBits) (framesOf ns)
+      ∙ ap (λ (f : Final). before (f .got) (hearAll (listening h) (f .receiver) (framesOf ns))) (note-past v b)
+      ∙ ap (before (ended false (withCheck (v ∷ vs)))) (notes-past n)
+
+  pub notes-heard : {ns : List (List ℕ)} → Start s → Notes ns → hearAll (listening h) s (flagBits ++ framesOf ns) ≡ final (past s) (allEnded ns)
+  notes-heard {ns} t n = opening t (framesOf ns) ∙ notes-past n
