@@ -279,10 +279,16 @@ abort-no-end g m o s xs n zs b k f h =
     let i : u .content .ones ≡ 7 = ones-counted g m o t (replicate n true) ∙ seven-counted n (t .content .ones) k in
     let j = ap (λ (y : Final). endMarks (y .got)) (hear-join g s xs (replicate n true ++ v)) in
     let p = ap (λ (y : Final). endMarks (y .got)) (hear-join g t (replicate n true) v) in
-    omega (arith, j, p, end-marks-join (hearAll g s xs .got) (hearAll g t (replicate n true ++ v) .got),
-    end-marks-join (hearAll g t (replicate n true) .got) (hearAll g u v .got), free-no-end g m o s xs f,
-    free-no-end g m o t (replicate n true) (ones-free (t .content .ones) n),
-    deaf-no-end g m o u zs b (seven-deafen g m o n t k) (ap (λ (y : ℕ). flagFree y zs) i ∙ h))
+    omega (
+      arith,
+      j,
+      p,
+      end-marks-join (hearAll g s xs .got) (hearAll g t (replicate n true ++ v) .got),
+      end-marks-join (hearAll g t (replicate n true) .got) (hearAll g u v .got),
+      free-no-end g m o s xs f,
+      free-no-end g m o t (replicate n true) (ones-free (t .content .ones) n),
+      deaf-no-end g m o u zs b (seven-deafen g m o n t k) (ap (λ (y : ℕ). flagFree y zs) i ∙ h),
+    )
 
 -- the same over a story of chip events: no end mark among what was read and what waits, if there was none among what waited
 pub record NoEndTold (w : Which) (c : Chip) (st : List Event) (p o : Bool) : Type 0 where

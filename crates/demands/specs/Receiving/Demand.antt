@@ -16,8 +16,8 @@ use Rattle.line.specs.Laws.Bits.{Below}
 use Rattle.queue.specs.declared.Entry.{Entry}
 use Rattle.queue.specs.declared.Queue.{Queue}
 use Rattle.queue.specs.Entry.{plainEntry}
-use Rattle.queue.specs.Queue.{waits, rr1, rr1Of}
-use Rattle.queue.specs.Laws.{Holds, three-empty, latches-holds, rr1-holds, none-waits}
+use Rattle.queue.specs.Queue.{room, waits, rr1, rr1Of}
+use Rattle.queue.specs.Laws.{Holds, h0, three-empty, latches-holds, rr1-holds, none-waits}
 use Rattle.receiver.specs.declared.Receiving.{Receiving}
 use Rattle.receiver.specs.declared.Receiver.{Receiver}
 use Rattle.receiver.specs.Sdlc.{past}
@@ -31,7 +31,7 @@ use Rattle.chip.specs.Interrupts.{anyPending, rr2}
 use Rattle.chip.specs.Chip.{controlReadCall}
 use Rattle.chip.specs.Event.{Event, ControlRead, step}
 use Rattle.demands.specs.Story.{Which, A, B, number, chan, after}
-use Rattle.demands.specs.Receiving.Statement.{Side, side, sideOf, Listening, role, bitIn, bitsOf, Fed, over, hears, reads, still, valuesOf, tookOf, bytesOf, withCheck, ended, Received, Demand2, Moment, Always2, Mark2, Notes2, framesOf, allEnded, Notes}
+use Rattle.demands.specs.Receiving.Statement.{Side, side, sideOf, past-flag, Listening, role, bitIn, bitsOf, Fed, over, hears, reads, still, valuesOf, tookOf, bytesOf, withCheck, ended, Received, Demand2, Moment, Always2, Mark2, Notes2, framesOf, allEnded, Notes}
 use Rattle.demands.specs.Receiving.Bytes.{withCheck-length}
 use Rattle.demands.specs.Receiving.Heard.{Final, final, before, hearAll}
 use Rattle.demands.specs.Receiving.Frame.{listening, frame-heard, notes-heard}
@@ -100,6 +100,23 @@ demand2 w c st note l n b f e =
     let g = sideOf w c .settings in
     let s = chan w c .receiver in
     received-bytes w c st false (withCheck note) l f (ap (hearAll (listening g) s) e ∙ frame-heard g s note n (l .start) b)
+
+-- once all is read the channel listens as it did: the next frame may follow
+holds-none : {p o : Bool} {q : Queue} → Holds p o q [] → (q .count ≡ 0) × (length (q .entries) ≡ room)
+holds-none h0 = (refl, refl)
+
+pub listens-again : (w : Which) (c : Chip) (st : List Event) (bytes : List ℕ) (es : List Entry) → Listening (sideOf w c) → (r : Received w c st bytes es) → r .waiting ≡ []
+    → Listening (sideOf w (after c st))
+listens-again w c st bytes es l r n =
+    let h = holds-none (subst (Holds (chan w c .queue .parity) (chan w c .queue .overrun) (chan w (after c st) .queue)) n (r .holds)) in
+    record {
+      mode = ap (λ (g : Receiving). g .mode) (r .stays) ∙ l .mode;
+      on = ap (λ (g : Receiving). g .on) (r .stays) ∙ l .on;
+      search = ap (λ (g : Receiving). g .search) (r .stays) ∙ l .search;
+      empty = h .0;
+      three = h .1;
+      start = past-flag (ap (λ (s : Receiver). s .content) (r .ready));
+    }
 
 -- several notes
 pub notes2 : Notes2

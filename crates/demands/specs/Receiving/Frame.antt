@@ -10,6 +10,7 @@ use lib.Seq.{take-at}
 use borrow.Author.Tests.{ne-eqb, lt-ltb, le-ltb}
 use Rattle.common.specs.Choice.{if_then_else_}
 use Rattle.common.specs.Tools.{eqb-elim, ltb-elim, lt-or}
+use Rattle.common.specs.declared.Mode.{Mode}
 use Rattle.common.specs.declared.Mode.the-variants.{Sdlc}
 use Rattle.line.specs.Bits.{oneIf, lowBits, textBits}
 use Rattle.line.specs.Check.{sdlc, ones, checkStep, checkOver, remainder}
@@ -27,7 +28,7 @@ use Rattle.receiver.specs.declared.Receiver.{Receiver}
 use Rattle.receiver.specs.declared.Heard.{Heard}
 use Rattle.receiver.specs.State.{chars, freshChars, emptyDelay, fullDelay, content, receiver, following, heard, silent}
 use Rattle.receiver.specs.Sdlc.{shiftIn, lastBit, accept, push, closing, past, one, zeroBit}
-use Rattle.receiver.specs.Receiver.{hear}
+use Rattle.receiver.specs.Receiver.{hearIn, hear}
 use Rattle.demands.specs.Receiving.Statement.{Start, in-hunt, past-flag, withCheck, ended, framed, framesOf, allEnded, Notes, no-more, one-more}
 use Rattle.demands.specs.Receiving.Bytes.{assembled, assembled-whole, content-bytes, withCheck-below, withCheck-good}
 use Rattle.demands.specs.Receiving.Heard.{handed, Final, final, before, hearAll, hear-join}
@@ -35,6 +36,11 @@ use Rattle.demands.specs.Receiving.Heard.{handed, Final, final, before, 
 -- in SDLC, on, address search off; all else as set
 abbrev pub listening : Receiving → Receiving
 listening g = record { mode = Sdlc; on = true; search = false; address = g .address; length = g .length; parity = g .parity; even = g .even }
+
+-- "just past a flag": what the tick that ends one leaves, whatever was before
+pub flag-leaves : (g : Receiving) (s : Receiver) → g .mode ≡ Sdlc → g .on ≡ true → s .content .ones ≡ 6 → hear g s false .receiver ≡ past s
+unfolding hear zeroBit
+flag-leaves g s m o e = ap (λ (k : Mode). hearIn k g s false .receiver) m ∙ rw (o, e)
 
 -- The characters: what a bit that leaves the delay does, and what a flag then does
 
