@@ -5,5 +5,6 @@ pub mod Statement
 pub mod Frame
 pub mod Shown
 pub mod Underrun
+pub mod Abort
 pub mod Timely
 pub mod Example

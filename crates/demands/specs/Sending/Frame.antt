@@ -173,7 +173,7 @@ frame-kept w c p v vs left st s i n =
     (omega (arith, head-length p (s .inside), length-append (flagHead p) (toCome x (v ∷ vs)), ap length a)) in
     (k, ap (λ (l : List Bool). flagHead p ++ l) (k .whole) ∙ a)
 
-sent-length : (w : Which) (c : Chip) (p : ℕ) (st : List Event) → p ≤ 8 → length (flagHead p ++ lineOf w c st) ≡ p + ticks w st
+pub sent-length : (w : Which) (c : Chip) (p : ℕ) (st : List Event) → p ≤ 8 → length (flagHead p ++ lineOf w c st) ≡ p + ticks w st
 sent-length w c p st l = omega (arith, length-append (flagHead p) (lineOf w c st), head-length p l, line-length w c st)
 
 pub frame-begun : FrameBegun

@@ -3,22 +3,28 @@
 use mathlib.Core.Path.{_≡_}
 use mathlib.Core.Bool.{Bool, true, false}
 use mathlib.Core.List.{List, [], _∷_, _++_}
-use Prim.Native.Nat.{ℕ, _+_, _-_, _*_, _/_, _≤_}
-use lib.ListN.{length, take}
+use Prim.Native.Nat.{ℕ, _+_, _-_, _*_, _/_, _≤_, _<_}
+use lib.ListN.{length, take, drop, replicate}
+use Rattle.common.specs.declared.Mode.the-variants.{Sdlc}
 use Rattle.line.specs.Bits.{odd}
 use Rattle.line.specs.Check.{ones}
-use Rattle.line.specs.Frame.{frame, zerosOf}
+use Rattle.line.specs.Frame.{flagBits, frame, zerosOf}
 use Rattle.sender.specs.declared.LineUnit.{LineUnit}
 use Rattle.sender.specs.declared.LineUnit.the-variants.{Mark, Flag, Byte, Check, Abort, Character}
 use Rattle.sender.specs.Sound.{SoundSender}
+use Rattle.receiver.specs.declared.Receiving.{Receiving}
+use Rattle.receiver.specs.declared.Receiver.{Receiver}
+use Rattle.settings.specs.Settings.{commandIn}
 use Rattle.channel.specs.Answer.{answerValue}
 use Rattle.chip.specs.declared.Chip.{Chip}
-use Rattle.chip.specs.Event.{Event, ControlRead, DataWrite, Transmit, step}
+use Rattle.chip.specs.Event.{Event, ControlWrite, ControlRead, DataWrite, Transmit, step}
 use Rattle.come.specs.Come.{Good}
 use Rattle.come.specs.Stage.{sinceAfter, inTime}
 use Rattle.come.specs.Start.{flagHead}
 use Rattle.demands.specs.Story.{Which, number, chan, after}
-use Rattle.demands.specs.Sending.Side.{SenderSide, sendingIn, sideOf, fullOf, latchOf, Role, Else, role, lineOf, ticks}
+use Rattle.demands.specs.Receiving.Heard.{hearAll}
+use Rattle.demands.specs.Receiving.Deaf.{flagFree, endMarks}
+use Rattle.demands.specs.Sending.Side.{SenderSide, sendingIn, sideOf, fullOf, latchOf, Role, Else, role, isTick, lineOf, ticks}
 
 -- "Start during a flag with the SDLC sender on .., buffer empty, check preset to ones and included, underrun latch cleared, no break since it
 -- began": p of the flag's bits are sent. The last line is so of every chip that came from a reset by events
@@ -133,3 +139,35 @@ NotClosed w c = (latchOf w c ≡ false) × (opens (chan w c .sender .unit) ≡ t
 abbrev pub NeverUnseen : Type 0
 NeverUnseen = (w : Which) (c : Chip) (p : ℕ) (st : List Event) → Start w c p → Watched w c st → chan w (after c st) .pointer ≡ 0
     → d6 w (after c st) ≡ false → NotClosed w (after c st)
+
+-- "An abort during that flag or later": Send Abort is a write to WR0 with command 1
+pub record SendsAbort (w : Which) (c : Chip) (v : ℕ) : Type 0 where
+  pub to-wr0 : chan w c .pointer ≡ 0
+  pub command : commandIn v ≡ 1
+
+-- "left to run and with no break": ticks, and whatever leaves the unit under way, an owed zero and what the sender heeds as they are. The host
+-- may write, preset the check and clear the latch
+abbrev pub UnitKept : Which → Chip → Chip → Type 0
+UnitKept w c d =
+    (chan w d .sender .unit ≡ chan w c .sender .unit) × (chan w d .sender .core .owed ≡ chan w c .sender .core .owed) × (sideOf w d .heeds ≡ sideOf w c .heeds)
+
+pub data LeftToRun (w : Which) : Chip → List Event → Type 0 where
+  ended : {c : Chip} → LeftToRun w c []
+  kept : {c : Chip} {e : Event} {st : List Event} → isTick w e ≡ false → UnitKept w c (step c e .chip) → LeftToRun w (step c e .chip) st → LeftToRun w c (e ∷ st)
+  ticking : {c : Chip} {st : List Event} → LeftToRun w (step c (Transmit (number w)) .chip) st → LeftToRun w c (Transmit (number w) ∷ st)
+
+-- behind the story xs the host writes v to WR0
+pub record Aborted (w : Which) (c : Chip) (p : ℕ) (xs : List Event) (v : ℕ) : Type 0 where
+  -- eight ones and a new flag follow what was sent: "bytes written after the abort belong to another frame"
+  pub line : (ys : List Event) → LeftToRun w (step (after c xs) (ControlWrite (number w) v) .chip) ys → ticks w ys ≤ 16
+      → lineOf w c (xs ++ (ControlWrite (number w) v ∷ ys)) ≡ lineOf w c xs ++ take (ticks w ys) (replicate 8 true ++ flagBits)
+  -- "a receiver that was listening never reports an end for the frame which that flag opened": whatever its state, behind that flag, or what was
+  -- sent of it, no end mark is handed over up to and including the next flag, zs being the bits between and b the last of that flag
+  pub no-end : (g : Receiving) → g .mode ≡ Sdlc → g .on ≡ true → (r : Receiver) (zs : List Bool) (b : Bool) → flagFree 7 zs ≡ true
+      → let sent = flagHead p ++ lineOf w c xs in
+      endMarks (hearAll g (hearAll g r (take 8 sent) .receiver) (drop 8 sent ++ (replicate 8 true ++ (zs ++ (b ∷ [])))) .got) ≡ 0
+
+-- "before the closing flag's last bit"
+abbrev pub AbortCuts : Type 0
+AbortCuts = (w : Which) (c : Chip) (p v : ℕ) (vs left : List ℕ) (xs : List Event) (x : ℕ) → Start w c p → InTime w left c (p - 1) (v ∷ vs) xs
+    → p + ticks w xs < 8 * (length (v ∷ vs) + 2) + 16 + zerosOf (v ∷ vs) → SendsAbort w (after c xs) x → Aborted w c p xs x
