@@ -7,7 +7,7 @@ use Prim.Native.Nat.{ℕ, zero, suc, _+_, _-_, _*_, _≤_, _<_}
 use native.Mathlib.Omega.{arith}
 use lib.Dec.{eqb}
 use lib.ListN.{length, take, drop, replicate, length-append, length-take, take-append-drop, drop-of-length-le}
-use lib.Seq.{take-append-le, take-append-add}
+use lib.Seq.{take-append-le, take-append-add, take-take, take-at}
 use Rattle.common.specs.Choice.{if_then_else_}
 use Rattle.common.specs.Tools.{if-elim, lt-or}
 use Rattle.line.specs.Bits.{oneIf}
@@ -36,10 +36,10 @@ use Rattle.come.specs.Stage.{Stage, opening, inByte, inCheck, closing}
 use Rattle.come.specs.Laws.{void, in-sdlc}
 use Rattle.come.specs.Start.{flagHead, head-length}
 use Rattle.demands.specs.Story.{Which, A, B, number, chan, after}
-use Rattle.demands.specs.Receiving.Deaf.{flagFree, onesOver, lead, content-free, free-front, ones-counted, abort-no-end}
+use Rattle.demands.specs.Receiving.Deaf.{flagFree, onesOver, lead, content-free, free-front, ones-counted, abort-no-end, abort-untold}
 use Rattle.demands.specs.Receiving.Heard.{hearAll}
 use Rattle.demands.specs.Sending.Side.{Heeded, heeded, good, good-of, SenderSide, sendingIn, sideIn, sideOf, isTick, lineBit, lineOf, ticks}
-use Rattle.demands.specs.Sending.Statement.{Start, InTime, SendsAbort, UnitKept, LeftToRun, ended, kept, ticking, Aborted, AbortCuts}
+use Rattle.demands.specs.Sending.Statement.{Start, InTime, SendsAbort, UnitKept, LeftToRun, ended, kept, ticking, Aborted, AbortCuts, AbortUntold}
 use Rattle.demands.specs.Sending.Frame.{tick-side, tick-bit, tick-counts, skip-line, skip-ticks, frame-kept, frame-begun}
 
 -- Send Abort cuts the unit off
@@ -204,3 +204,20 @@ abort3 w c p v vs left xs x s i n a =
           ∙ ap (λ (l : List Bool). flagFree (onesOver (r .content .ones) (take 8 l)) (drop 8 l)) b
           ∙ free-behind (r .content .ones) (p + ticks w xs) note (omega arith)) f;
     }
+
+flag-ones : (o : ℕ) → onesOver o flagBits ≡ 0
+unfolding onesOver
+flag-ones o = refl
+
+pub abort-untold3 : AbortUntold
+abort-untold3 w c p v vs left xs s i n l u r rs parity overrun es zs b m o z h e f k j =
+    let t = ticks-are (v ∷ vs) in
+    let sent = flagHead p ++ lineOf w c xs in
+    let q = frame-begun w c p v vs left xs s i (omega arith) in
+    let first : take 8 sent ≡ flagBits =
+    ap (take 8) q ∙ take-take 8 (p + ticks w xs) (frame (v ∷ vs)) n ∙ take-at flagBits (stuff 0 (contentOf (v ∷ vs)) ++ flagBits) 8 refl in
+    let y : flagFree (chan u r .receiver .content .ones) (drop 8 sent) ≡ true =
+    ap (λ (x : ℕ). flagFree x (drop 8 sent)) (z ∙ sym (ap (onesOver 0) first ∙ flag-ones 0))
+    ∙ ap (λ (x : List Bool). flagFree (onesOver 0 (take 8 x)) (drop 8 x)) q
+    ∙ free-behind 0 (p + ticks w xs) (v ∷ vs) (omega arith) in
+    abort-untold u r rs parity overrun es (drop 8 sent) 8 zs b m o h e f k (omega arith) y j

@@ -8,7 +8,7 @@ use lib.Dec.{eqb, ltb, leb}
 use Rattle.common.specs.Bit.{placed}
 use Rattle.common.specs.Choice.{if_then_else_}
 use Rattle.common.specs.Mode.{inSdlc}
-use Rattle.common.specs.Tools.{if-elim}
+use Rattle.common.specs.Tools.{if-elim, by-test}
 use Rattle.common.specs.declared.Refusal.the-variants as refusal
 use Rattle.line.specs.Bits.{odd}
 use Rattle.queue.specs.Queue.{waits}
@@ -23,7 +23,7 @@ use Rattle.channel.specs.declared.Channel.{Channel}
 use Rattle.channel.specs.declared.Answered.{Answered}
 use Rattle.channel.specs.declared.DataRead.{DataRead as DataTaken}
 use Rattle.channel.specs.Status.{changed, noticed, shownBits, afresh}
-use Rattle.channel.specs.Channel.{liveOf, settled}
+use Rattle.channel.specs.Channel.{withStatus, liveOf, settled}
 use Rattle.channel.specs.Control.{commanded, preset, commandStep, presetStep, writeWr0, setWr2, sameMode, setWr4, setRegister, controlWritten, rr0Of, rr0, readRegister}
 use Rattle.channel.specs.Events.{dataRead, transmitTick, receiveTick, linesSet}
 use Rattle.chip.specs.declared.Chip.{Chip}
@@ -36,7 +36,7 @@ use Rattle.come.specs.Laws.{void}
 use Rattle.demands.specs.Story.{Which, A, B, number, chan}
 use Rattle.demands.specs.Sending.Side.{sendingIn, latchOf}
 use Rattle.demands.specs.Sending.Quiet.{by-channel}
-use Rattle.demands.specs.Sending.Statement.{d6, statusLatched}
+use Rattle.demands.specs.Sending.Statement.{d6, resetStatus}
 
 -- D6 as it is read
 
@@ -218,3 +218,23 @@ event-shown B c (SetLines ch dcd cts) l h =
     (λ e. if-elim (ShownIn B) (leb 2 dcd || leb 2 cts) (λ z. h) (settled-shown (c .b) _ h))
 event-shown w c Acknowledge l h = λ z. alike-shows (acknowledge-alike w c .1) h
 event-shown w c Reti l h = λ z. alike-shows (reti-alike w c .1) h
+
+-- Reset External/Status shows a latch that is set, whatever was shown before
+afresh-seen : (c : Channel) → LatchSet c → Shows (afresh (c .status) (liveOf c))
+unfolding afresh liveOf
+afresh-seen c l = by-test Shows (c .status .latched) (λ e e1. l) (λ e. unlatched-shows (c .status) e)
+
+reset-channel : (c : Channel) (s : Side) → c .pointer ≡ 0 → LatchSet c
+    → let d = controlWritten c s resetStatus .channel in (d .pointer ≡ 0) × LatchSet d × StatusShows d
+unfolding controlWritten writeWr0 commandStep presetStep commanded preset settled
+reset-channel c s p l =
+    let x : eqb (c .pointer) 0 ≡ true = ap (λ (n : ℕ). eqb n 0) p in
+    let d = settled c (withStatus c (afresh (c .status) (liveOf c))) in
+    let h : StatusShows d = settled-shown c (withStatus c (afresh (c .status) (liveOf c))) (afresh-seen c l) l in
+    rw x (refl, l, settled-shown d d h l)
+
+pub reset-seen : (w : Which) (c : Chip) → chan w c .pointer ≡ 0 → latchOf w c ≡ true
+    → let d = chan w (step c (ControlWrite (number w) resetStatus) .chip) in (d .pointer ≡ 0) × LatchSet d × StatusShows d
+unfolding controlWrite controlWriteA
+reset-seen A c p l = let x : eqb (c .a .pointer) 0 ≡ true = ap (λ (n : ℕ). eqb n 0) p in rw x (reset-channel (c .a) channels.A p l)
+reset-seen B c p l = reset-channel (c .b) channels.B p l

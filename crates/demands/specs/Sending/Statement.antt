@@ -12,6 +12,8 @@ use Rattle.line.specs.Frame.{flagBits, frame, zerosOf}
 use Rattle.sender.specs.declared.LineUnit.{LineUnit}
 use Rattle.sender.specs.declared.LineUnit.the-variants.{Mark, Flag, Byte, Check, Abort, Character}
 use Rattle.sender.specs.Sound.{SoundSender}
+use Rattle.queue.specs.declared.Entry.{Entry}
+use Rattle.queue.specs.Laws.{Holds}
 use Rattle.receiver.specs.declared.Receiving.{Receiving}
 use Rattle.receiver.specs.declared.Receiver.{Receiver}
 use Rattle.settings.specs.Settings.{commandIn}
@@ -22,8 +24,9 @@ use Rattle.come.specs.Come.{Good}
 use Rattle.come.specs.Stage.{sinceAfter, inTime}
 use Rattle.come.specs.Start.{flagHead}
 use Rattle.demands.specs.Story.{Which, number, chan, after}
+use Rattle.demands.specs.Receiving.Statement as receiving
 use Rattle.demands.specs.Receiving.Heard.{hearAll}
-use Rattle.demands.specs.Receiving.Deaf.{flagFree, endMarks}
+use Rattle.demands.specs.Receiving.Deaf.{flagFree, endMarks, NoEndTold}
 use Rattle.demands.specs.Sending.Side.{SenderSide, sendingIn, sideOf, fullOf, latchOf, Role, Else, role, isTick, lineOf, ticks}
 
 -- "Start during a flag with the SDLC sender on .., buffer empty, check preset to ones and included, underrun latch cleared, no break since it
@@ -115,6 +118,13 @@ abbrev pub NoIncident : Type 0
 NoIncident = (w : Which) (c : Chip) (ys : List Event) → RunsDry w c → statusLatched w c ≡ false → Free w (step c (Transmit (number w)) .chip) ys
     → let d = after c (Transmit (number w) ∷ ys) in chan w d .pointer ≡ 0 → d6 w d ≡ true
 
+-- a host whose status was latched reads D6 as 1 behind its next Reset External/Status
+abbrev pub resetStatus : ℕ
+resetStatus = 0b10000
+
+abbrev pub ResetShows : Type 0
+ResetShows = (w : Which) (c : Chip) → chan w c .pointer ≡ 0 → latchOf w c ≡ true → d6 w (step c (ControlWrite (number w) resetStatus) .chip) ≡ true
+
 -- The same for every story of a host that ticks and writes as it likes and whose status is not latched at a tick while the latch is clear:
 -- as long as it reads D6 as 0, no bit of a check and none of a closing flag has gone out
 pub data Watched (w : Which) : Chip → List Event → Type 0 where
@@ -171,3 +181,14 @@ pub record Aborted (w : Which) (c : Chip) (p : ℕ) (xs : List Event) (v : ℕ) 
 abbrev pub AbortCuts : Type 0
 AbortCuts = (w : Which) (c : Chip) (p v : ℕ) (vs left : List ℕ) (xs : List Event) (x : ℕ) → Start w c p → InTime w left c (p - 1) (v ∷ vs) xs
     → p + ticks w xs < 8 * (length (v ∷ vs) + 2) + 16 + zerosOf (v ∷ vs) → SendsAbort w (after c xs) x → Aborted w c p xs x
+
+-- The same of two chips: channel u of the chip r, SDLC and on, is just past that flag, and hears the rest of what channel w of c has sent, the
+-- eight ones, and what follows up to the next flag: neither among the entries that were read nor among those that wait is an end
+abbrev pub AbortUntold : Type 0
+AbortUntold = (w : Which) (c : Chip) (p v : ℕ) (vs left : List ℕ) (xs : List Event) → Start w c p → InTime w left c (p - 1) (v ∷ vs) xs
+    → 8 ≤ p + ticks w xs → p + ticks w xs < 8 * (length (v ∷ vs) + 2) + 16 + zerosOf (v ∷ vs)
+    → (u : Which) (r : Chip) (rs : List Event) (parity overrun : Bool) (es : List Entry) (zs : List Bool) (b : Bool)
+    → receiving.sideOf u r .settings .mode ≡ Sdlc → receiving.sideOf u r .settings .on ≡ true → chan u r .receiver .content .ones ≡ 0
+    → Holds parity overrun (chan u r .queue) es → endMarks es ≡ 0 → receiving.Fed u r rs
+    → receiving.bitsOf u rs ≡ drop 8 (flagHead p ++ lineOf w c xs) ++ (replicate 8 true ++ (zs ++ (b ∷ []))) → flagFree 7 zs ≡ true
+    → NoEndTold u r rs parity overrun

@@ -1,6 +1,6 @@
--- The condition of demand 3 as a test that a reader can run on a story, and that it is that condition. Assumes nothing.
-use mathlib.Core.Path.{_≡_, refl, sym}
-use mathlib.Core.Bool.{Bool, true, false, not, _&&_}
+-- The conditions of demand 3 as tests that a reader can run on a story, and that they are those conditions. Assumes nothing.
+use mathlib.Core.Path.{_≡_, refl, sym, ap}
+use mathlib.Core.Bool.{Bool, true, false, not, _&&_, _||_}
 use mathlib.Core.List.{List, [], _∷_, _++_}
 use Prim.Native.Nat.{ℕ, _+_, _-_, _*_}
 use lib.Dec.{eqb}
@@ -13,10 +13,11 @@ use Rattle.come.specs.Stage.{sinceAfter, inTime}
 use Rattle.come.specs.Start.{flagHead}
 use Rattle.come.specs.Laws.{void}
 use Rattle.demands.specs.Story.{Which}
-use Rattle.demands.specs.Sending.Side.{fullOf, latchOf, Role, Ticks, Writes, Else, role, View, its-tick, its-write, other, view, lineOf, ticks}
+use Rattle.demands.specs.Sending.Side.{SenderSide, fullOf, latchOf, Role, Ticks, Writes, Else, role, View, its-tick, its-write, other, view, ticksBy, lineOf, ticks}
 use Rattle.demands.specs.Sending.Quiet.{quiet, quiet-keeps, and-l, and-r}
-use Rattle.demands.specs.Sending.Statement.{Start, InTime, over, still, writes, next-frame, ticking}
-use Rattle.demands.specs.Sending.Frame.{demand3}
+use Rattle.demands.specs.Sending.Statement.{Start, InTime, over, still, writes, next-frame, ticking, statusLatched, Free, Watched, LeftToRun}
+use Rattle.demands.specs.Sending.Statement as stated
+use Rattle.demands.specs.Sending.Frame.{write-side, write-no-tick, demand3}
 
 -- a tick before the deadline; the next byte, into the empty buffer; nothing else that touches the sender
 abbrev pub allowed : Which → Chip → ℕ → List ℕ → Event → Role → Bool
@@ -76,3 +77,67 @@ in-time w c n rest (e ∷ st) t =
 pub demand3-tested : (w : Which) (c : Chip) (p v : ℕ) (vs : List ℕ) (st : List Event) → Start w c p → timely w c (p - 1) (v ∷ vs) st ≡ true
     → p + ticks w st ≡ 8 * (length (v ∷ vs) + 2) + 16 + zerosOf (v ∷ vs) → flagHead p ++ lineOf w c st ≡ frame (v ∷ vs)
 demand3-tested w c p v vs st s t n = demand3 w c p v vs st s (in-time w c (p - 1) (v ∷ vs) st t) n
+
+-- The hosts of the underrun's theorems, likewise
+
+-- one that ticks and writes as it likes
+abbrev pub free : Which → Chip → Event → Role → Bool
+free w c e Ticks = true
+free w c e (Writes b) = true
+free w c e Else = quiet w c e
+
+unfoldable pub freely : Which → Chip → List Event → Bool
+freely w c [] = true
+freely w c (e ∷ st) = free w c e (role w e) && freely w (step c e .chip) st
+
+one-free : (w : Which) (c : Chip) (e : Event) (st : List Event) (r : Role) → View w e r → role w e ≡ r → free w c e r ≡ true → Free w (step c e .chip) st → Free w c (e ∷ st)
+one-free w c _ st Ticks its-tick q a f = stated.ticking f
+one-free w c _ st (Writes b) its-write q a f = stated.writes f
+one-free w c e st Else other q a f = stated.still q (quiet-keeps w c e a) f
+
+pub free-of : (w : Which) (c : Chip) (st : List Event) → freely w c st ≡ true → Free w c st
+unfolding freely
+free-of w c [] t = stated.ended
+free-of w c (e ∷ st) t =
+    let r = role w e in
+    one-free w c e st r (view w e) refl (and-l (free w c e r) (freely w (step c e .chip) st) t)
+    (free-of w (step c e .chip) st (and-r (free w c e r) (freely w (step c e .chip) st) t))
+
+-- one whose status is not latched at a tick while the latch is clear
+abbrev pub seeing : Which → Chip → Event → Role → Bool
+seeing w c e Ticks = latchOf w c || not (statusLatched w c)
+seeing w c e (Writes b) = true
+seeing w c e Else = quiet w c e
+
+unfoldable pub watching : Which → Chip → List Event → Bool
+watching w c [] = true
+watching w c (e ∷ st) = seeing w c e (role w e) && watching w (step c e .chip) st
+
+unlatched : (l s : Bool) → l || not s ≡ true → l ≡ false → s ≡ false
+unlatched true s t e = void (sym e)
+unlatched false s t e = not-true s t
+
+one-seen : (w : Which) (c : Chip) (e : Event) (st : List Event) (r : Role) → View w e r → role w e ≡ r → seeing w c e r ≡ true → Watched w (step c e .chip) st → Watched w c (e ∷ st)
+one-seen w c _ st Ticks its-tick q a f = stated.ticking (unlatched (latchOf w c) (statusLatched w c) a) f
+one-seen w c _ st (Writes b) its-write q a f = stated.writes f
+one-seen w c e st Else other q a f = stated.still q (quiet-keeps w c e a) f
+
+pub watched-of : (w : Which) (c : Chip) (st : List Event) → watching w c st ≡ true → Watched w c st
+unfolding watching
+watched-of w c [] t = stated.ended
+watched-of w c (e ∷ st) t =
+    let r = role w e in
+    one-seen w c e st r (view w e) refl (and-l (seeing w c e r) (watching w (step c e .chip) st) t)
+    (watched-of w (step c e .chip) st (and-r (seeing w c e r) (watching w (step c e .chip) st) t))
+
+-- such a host leaves an abort to run
+pub free-runs : (w : Which) {c : Chip} {st : List Event} → Free w c st → LeftToRun w c st
+free-runs w stated.ended = stated.ended
+free-runs w (stated.still {c = c} {e = x} r k f) =
+    stated.kept (ap ticksBy r)
+    (ap (λ (s : SenderSide). s .sender .unit) k, ap (λ (s : SenderSide). s .sender .core .owed) k, ap (λ (s : SenderSide). s .heeds) k) (free-runs w f)
+free-runs w (stated.writes {c = c} {v = v} f) =
+    let k = write-side w c v in
+    stated.kept (write-no-tick w v)
+    (ap (λ (s : SenderSide). s .sender .unit) k, ap (λ (s : SenderSide). s .sender .core .owed) k, ap (λ (s : SenderSide). s .heeds) k) (free-runs w f)
+free-runs w (stated.ticking f) = stated.ticking (free-runs w f)

@@ -22,16 +22,16 @@ use Rattle.channel.specs.Channel.{liveOf, settled}
 use Rattle.channel.specs.Events.{transmitTick}
 use Rattle.chip.specs.declared.Chip.{Chip}
 use Rattle.chip.specs.Chip.{dataWriteCall, transmitCall}
-use Rattle.chip.specs.Event.{Event, DataWrite, Transmit, step}
+use Rattle.chip.specs.Event.{Event, ControlWrite, DataWrite, Transmit, step}
 use Rattle.come.specs.Come.{Good}
 use Rattle.come.specs.Stage.{inTime}
 use Rattle.come.specs.Laws.{void, in-sdlc}
 use Rattle.demands.specs.Story.{Which, A, B, number, chan, after}
 use Rattle.demands.specs.Sending.Side.{Heeded, good, good-of, good-heeded, SenderSide, sendingIn, sideOf, latchOf, lineOf, ticks}
-use Rattle.demands.specs.Sending.Statement.{Start, InTime, over, still, writes, next-frame, ticking, RunsDry, d6, statusLatched, Underrun, UnderrunShown, Free, FedLate, NoIncident, Watched, opens, NotClosed, NeverUnseen}
+use Rattle.demands.specs.Sending.Statement.{Start, InTime, over, still, writes, next-frame, ticking, RunsDry, d6, statusLatched, Underrun, UnderrunShown, Free, FedLate, NoIncident, resetStatus, ResetShows, Watched, opens, NotClosed, NeverUnseen}
 use Rattle.demands.specs.Sending.Statement as stated
 use Rattle.demands.specs.Sending.Frame.{tick-side, write-side, demand3}
-use Rattle.demands.specs.Sending.Shown.{d6-read, Shows, shows-read, unlatched-shows, tick-shown, event-shown}
+use Rattle.demands.specs.Sending.Shown.{d6-read, Shows, shows-read, unlatched-shows, tick-shown, event-shown, reset-seen}
 
 -- The tick that finds the line dry
 
@@ -148,10 +148,14 @@ in-time-join w ys (ticking t i) f = ticking t (in-time-join w ys i f)
 dry-heeds : (w : Which) (c : Chip) → RunsDry w c → heedsOf w (step c (Transmit (number w)) .chip) ≡ good
 dry-heeds w c d = tick-heeds w c (good-heeded (sendingIn (chan w c)) (d .settings))
 
+-- a story that ran dry is in time for the bytes loaded so far
+pub late-in-time : (w : Which) (c : Chip) (p v : ℕ) (vs : List ℕ) (xs ys : List Event) → InTime w [] c (p - 1) (v ∷ vs) xs → RunsDry w (after c xs)
+    → Free w (step (after c xs) (Transmit (number w)) .chip) ys → InTime w [] c (p - 1) (v ∷ vs) (xs ++ (Transmit (number w) ∷ ys))
+late-in-time w c p v vs xs ys i d f =
+    in-time-join w (Transmit (number w) ∷ ys) i (λ m. ticking refl (free-in-time w f (dry-heeds w (after c xs) d) (dry-latch w (after c xs) d) _))
+
 pub fed-late : FedLate
-fed-late w c p v vs xs ys s i d f n =
-    demand3 w c p v vs (xs ++ (Transmit (number w) ∷ ys)) s
-    (in-time-join w (Transmit (number w) ∷ ys) i (λ m. ticking refl (free-in-time w f (dry-heeds w (after c xs) d) (dry-latch w (after c xs) d) _))) n
+fed-late w c p v vs xs ys s i d f n = demand3 w c p v vs (xs ++ (Transmit (number w) ∷ ys)) s (late-in-time w c p v vs xs ys i d f) n
 
 -- Seen: from the choosing tick on
 
@@ -174,6 +178,13 @@ no-incident w c ys d n f p =
     let e = step c (Transmit (number w)) .chip in
     let k = free-seen w f (dry-heeds w c d) l (tick-shown w c (unlatched-shows (chan w c .status) n) l) in
     shows-read w (after e ys) p (k .0) (k .1)
+
+-- status that was latched shows the latch with the next Reset External/Status
+pub reset-shows : ResetShows
+reset-shows w c p l =
+    let e = step c (ControlWrite (number w) resetStatus) .chip in
+    let k = reset-seen w c p l in
+    shows-read w e (k .0) (k .1) (k .2)
 
 -- Never unseen: while the latch is clear, a tick leaves an opening flag or a byte, or sets the latch
 
