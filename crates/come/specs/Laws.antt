@@ -1,10 +1,10 @@
 -- The laws of what is to come: a tick in time takes the first bit, a write takes none. Assumes nothing.
 use mathlib.Core.Path.{_≡_, refl, sym, ap, _∙_}
-use mathlib.Core.Bool.{Bool, true, false, not}
+use mathlib.Core.Bool.{Bool, true, false}
 use mathlib.Core.List.{List, [], _∷_, _++_, append-assoc}
 use Prim.Native.Nat.{ℕ, zero, suc, _+_, _/_, _≤_}
 use native.Mathlib.Omega.{arith}
-use lib.Dec.{eqb, ltb}
+use lib.Dec.{ltb}
 use lib.ListN.{length}
 use borrow.Author.Tests.{ltb-true}
 use Rattle.line.specs.Bits.{odd, lowBits, textBits, oneIf}
@@ -18,8 +18,8 @@ use Rattle.sender.specs.declared.Sender.{Sender}
 use Rattle.sender.specs.declared.Sending.{Sending}
 use Rattle.sender.specs.Sender.{core, sender, ticked, counted, emptied, startByte, flagBit, tickSdlc, tick, written}
 use Rattle.sender.specs.Laws.Tick.{tick-sdlc, tick-owed, tick-flag, tick-byte, tick-check, tick-abort, tick-chooses, next-flag-full, next-byte-full, next-byte-check, next-check, next-abort}
-use Rattle.come.specs.Come.{Good, flagTail, waiting, closed, coming, toCome}
-use Rattle.come.specs.Stage.{sinceAfter, inTime, Some, Stage, opening, inByte, inCheck, closing, cutOff}
+use Rattle.come.specs.Come.{Good, waiting, closed, toCome}
+use Rattle.come.specs.Stage.{sinceAfter, inTime, Stage, opening, inByte, inCheck, closing, cutOff}
 
 -- Bits
 

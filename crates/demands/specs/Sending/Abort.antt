@@ -1,18 +1,16 @@
 -- Demand 3's abort: eight ones and a new flag go out whatever the unit was, and no receiver of this product reports an end for the frame.
 -- Assumes nothing.
 use mathlib.Core.Path.{_≡_, refl, sym, ap, ap₂, _∙_}
-use mathlib.Core.Bool.{Bool, true, false, not, _&&_}
+use mathlib.Core.Bool.{Bool, true, false}
 use mathlib.Core.List.{List, [], _∷_, _++_, append-assoc}
-use Prim.Native.Nat.{ℕ, zero, suc, _+_, _-_, _*_, _≤_, _<_}
+use Prim.Native.Nat.{ℕ, zero, suc, _+_, _-_, _≤_, _<_}
 use native.Mathlib.Omega.{arith}
 use lib.Dec.{eqb}
 use lib.ListN.{length, take, drop, replicate, length-append, length-take, take-append-drop, drop-of-length-le}
 use lib.Seq.{take-append-le, take-append-add, take-take, take-at}
-use Rattle.common.specs.Choice.{if_then_else_}
 use Rattle.common.specs.Tools.{if-elim, lt-or}
-use Rattle.line.specs.Bits.{oneIf}
 use Rattle.line.specs.Insertion.{stuff}
-use Rattle.line.specs.Frame.{flagBits, contentOf, frame, zerosOf}
+use Rattle.line.specs.Frame.{flagBits, contentOf, frame}
 use Rattle.line.specs.Laws.Frame.{ticks-are}
 use Rattle.sender.specs.declared.LineUnit.{LineUnit}
 use Rattle.sender.specs.declared.LineUnit.the-variants.{Mark, Flag, Byte, Check, Abort, Character}
@@ -20,7 +18,7 @@ use Rattle.sender.specs.declared.Core.{Core}
 use Rattle.sender.specs.declared.Sender.{Sender}
 use Rattle.sender.specs.declared.Sending.{Sending}
 use Rattle.sender.specs.declared.Ticked.{Ticked}
-use Rattle.sender.specs.Sender.{core, sender, ticked, uncounted, paid, flagBit, tickSdlc, tick, aborting, aborted, cutShort}
+use Rattle.sender.specs.Sender.{core, sender, ticked, uncounted, paid, flagBit, tickSdlc, tick, aborting}
 use Rattle.sender.specs.Laws.Tick.{tick-flag, tick-abort, tick-chooses, next-abort, abort-cuts}
 use Rattle.settings.specs.Settings.{commandIn, presetIn}
 use Rattle.channel.specs.declared.Side.{Side}
@@ -31,15 +29,15 @@ use Rattle.channel.specs.Control.{commanded, preset, commandStep, presetStep, w
 use Rattle.chip.specs.declared.Chip.{Chip}
 use Rattle.chip.specs.Chip.{controlWriteA, controlWrite}
 use Rattle.chip.specs.Event.{Event, ControlWrite, Transmit, step}
-use Rattle.come.specs.Come.{Good, flagTail, toCome}
+use Rattle.come.specs.Come.{Good, flagTail}
 use Rattle.come.specs.Stage.{Stage, opening, inByte, inCheck, closing}
-use Rattle.come.specs.Laws.{void, in-sdlc}
-use Rattle.come.specs.Start.{flagHead, head-length}
+use Rattle.come.specs.Laws.{in-sdlc}
+use Rattle.come.specs.Start.{flagHead}
 use Rattle.demands.specs.Story.{Which, A, B, number, chan, after}
 use Rattle.demands.specs.Receiving.Deaf.{flagFree, onesOver, lead, content-free, free-front, ones-counted, abort-no-end, abort-untold}
 use Rattle.demands.specs.Receiving.Heard.{hearAll}
-use Rattle.demands.specs.Sending.Side.{Heeded, heeded, good, good-of, SenderSide, sendingIn, sideIn, sideOf, isTick, lineBit, lineOf, ticks}
-use Rattle.demands.specs.Sending.Statement.{Start, InTime, SendsAbort, UnitKept, LeftToRun, ended, kept, ticking, Aborted, AbortCuts, AbortUntold}
+use Rattle.demands.specs.Sending.Side.{good, good-of, SenderSide, sendingIn, sideIn, sideOf, isTick, lineBit, lineOf, ticks}
+use Rattle.demands.specs.Sending.Statement.{SendsAbort, LeftToRun, ended, kept, ticking, AbortCuts, AbortUntold}
 use Rattle.demands.specs.Sending.Frame.{tick-side, tick-bit, tick-counts, skip-line, skip-ticks, frame-kept, frame-begun}
 
 -- Send Abort cuts the unit off

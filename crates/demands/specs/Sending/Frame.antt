@@ -2,16 +2,14 @@
 use mathlib.Core.Path.{_≡_, refl, sym, ap, ap₂, _∙_}
 use mathlib.Core.Bool.{Bool, true, false}
 use mathlib.Core.List.{List, [], _∷_, _++_, append-assoc, append-nil}
-use Prim.Native.Nat.{ℕ, zero, suc, _+_, _-_, _*_, _≤_}
+use Prim.Native.Nat.{ℕ, _+_, _-_, _≤_}
 use native.Mathlib.Omega.{arith}
 use lib.ListN.{length, take, length-append}
 use lib.Seq.{take-at}
 use Rattle.line.specs.Bits.{oneIf}
-use Rattle.line.specs.Check.{ones}
-use Rattle.line.specs.Frame.{frame, zerosOf}
+use Rattle.line.specs.Frame.{frame}
 use Rattle.line.specs.Laws.Frame.{ticks-are}
 use Rattle.line.specs.Laws.Frame as laws
-use Rattle.sender.specs.declared.LineUnit.{LineUnit}
 use Rattle.sender.specs.declared.LineUnit.the-variants.{Flag}
 use Rattle.sender.specs.declared.Sender.{Sender}
 use Rattle.sender.specs.declared.Ticked.{Ticked}
@@ -24,10 +22,10 @@ use Rattle.chip.specs.Chip.{onLevel, dataWriteCall, transmitCall}
 use Rattle.chip.specs.Event.{Event, DataWrite, Transmit, step}
 use Rattle.come.specs.Come.{toCome}
 use Rattle.come.specs.Stage.{sinceAfter, inTime, Stage}
-use Rattle.come.specs.Laws.{Takes, takes, moves, later}
+use Rattle.come.specs.Laws.{takes, moves, later}
 use Rattle.come.specs.Start.{started, flagHead, head-length, at-start, start-stage}
 use Rattle.demands.specs.Story.{Which, A, B, number, chan, after}
-use Rattle.demands.specs.Sending.Side.{Heeded, heeded, good, good-of, good-heeded, SenderSide, side, sendingIn, sideOf, fullOf, latchOf, Role, Ticks, Writes, Else, role, View, its-tick, its-write, other, view, ticksBy, isTick, lineBit, lineOf, ticks}
+use Rattle.demands.specs.Sending.Side.{Heeded, heeded, good, good-of, good-heeded, SenderSide, side, sendingIn, sideOf, fullOf, Role, View, its-tick, its-write, other, view, ticksBy, isTick, lineBit, lineOf, ticks}
 use Rattle.demands.specs.Sending.Statement.{Start, InTime, over, still, writes, next-frame, ticking, FrameSent, FrameBegun, ZerosFew}
 
 -- What the three kinds of event are to the side

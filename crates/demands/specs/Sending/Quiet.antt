@@ -1,7 +1,7 @@
 -- Which events leave a channel's sender alone: a test that a reader can run on an event, and that it is enough. Assumes nothing.
 use mathlib.Core.Path.{_≡_, refl, sym, ap, _∙_}
 use mathlib.Core.Bool.{Bool, true, false, not, _&&_, _||_, Bool·beq}
-use Prim.Native.Nat.{ℕ, _/_, _-_}
+use Prim.Native.Nat.{ℕ, _/_}
 use lib.Dec.{eqb, ltb, leb}
 use Rattle.common.specs.Choice.{if_then_else_}
 use Rattle.common.specs.Tools.{if-elim, by-test}

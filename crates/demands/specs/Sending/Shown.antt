@@ -9,28 +9,26 @@ use Rattle.common.specs.Bit.{placed}
 use Rattle.common.specs.Choice.{if_then_else_}
 use Rattle.common.specs.Mode.{inSdlc}
 use Rattle.common.specs.Tools.{if-elim, by-test}
-use Rattle.common.specs.declared.Refusal.the-variants as refusal
 use Rattle.line.specs.Bits.{odd}
 use Rattle.queue.specs.Queue.{waits}
 use Rattle.sender.specs.declared.Sender.{Sender}
-use Rattle.sender.specs.Sender.{tick, aborting, aborted, bufferReady}
+use Rattle.sender.specs.Sender.{aborting, aborted, bufferReady}
 use Rattle.settings.specs.Settings.{commandIn, presetIn, entersHunt, modeOf, notBuilt}
 use Rattle.channel.specs.declared.Side.{Side}
 use Rattle.channel.specs.declared.Side.the-variants as channels
-use Rattle.channel.specs.declared.Live.{Live}
 use Rattle.channel.specs.declared.Status.{Status}
 use Rattle.channel.specs.declared.Channel.{Channel}
 use Rattle.channel.specs.declared.Answered.{Answered}
 use Rattle.channel.specs.declared.DataRead.{DataRead as DataTaken}
 use Rattle.channel.specs.Status.{changed, noticed, shownBits, afresh}
 use Rattle.channel.specs.Channel.{withStatus, liveOf, settled}
-use Rattle.channel.specs.Control.{commanded, preset, commandStep, presetStep, writeWr0, setWr2, sameMode, setWr4, setRegister, controlWritten, rr0Of, rr0, readRegister}
+use Rattle.channel.specs.Control.{commanded, preset, commandStep, presetStep, writeWr0, setWr2, sameMode, setWr4, setRegister, controlWritten, rr0, readRegister}
 use Rattle.channel.specs.Events.{dataRead, transmitTick, receiveTick, linesSet}
 use Rattle.chip.specs.declared.Chip.{Chip}
 use Rattle.chip.specs.declared.Outcome.{Outcome}
 use Rattle.chip.specs.declared.Acknowledged.{Acknowledged}
 use Rattle.chip.specs.Interrupts.{none, serving, atLevel, mayTake, acknowledge, reti, serviceLevel, pendingLevel, anyPending, rr2}
-use Rattle.chip.specs.Chip.{endsService, onLevel, controlWriteA, controlWrite, controlReadCall, dataWriteCall, dataReadCall, transmitCall, receiveCall, linesCall}
+use Rattle.chip.specs.Chip.{endsService, controlWriteA, controlWrite, controlReadCall, dataWriteCall, dataReadCall, transmitCall, receiveCall, linesCall}
 use Rattle.chip.specs.Event.{Event, HardReset, ControlWrite, ControlRead, DataWrite, DataRead, Transmit, Receive, SetLines, Acknowledge, Reti, step}
 use Rattle.come.specs.Laws.{void}
 use Rattle.demands.specs.Story.{Which, A, B, number, chan}

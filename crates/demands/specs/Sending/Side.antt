@@ -1,7 +1,6 @@
 -- The sender's side of a channel: its sender, and what SDLC heeds of its settings. What an event is to it, and the line bits, ticks and
 -- states of a story. Assumes nothing.
-use mathlib.Core.Path.{_≡_, refl, ap}
-use mathlib.Core.Logic.{_≢_}
+use mathlib.Core.Path.{_≡_, ap}
 use mathlib.Core.Bool.{Bool, true, false}
 use mathlib.Core.List.{List, [], _∷_, _++_}
 use Prim.Native.Nat.{ℕ, _+_}
@@ -21,7 +20,7 @@ use Rattle.chip.specs.declared.Chip.{Chip}
 use Rattle.chip.specs.Chip.{onLevel}
 use Rattle.chip.specs.Event.{Event, HardReset, ControlWrite, ControlRead, DataWrite, DataRead, Transmit, Receive, SetLines, Acknowledge, Reti, step}
 use Rattle.come.specs.Come.{Good}
-use Rattle.demands.specs.Story.{Which, A, B, number, chan}
+use Rattle.demands.specs.Story.{Which, number, chan}
 
 -- what SDLC heeds of the settings: "In SDLC all characters have eight bits and no parity .. no matter what WR3, WR4, WR5 and WR7 hold"
 pub record Heeded : Type 0 where

@@ -27,7 +27,7 @@ use Rattle.demands.specs.Story.{Which, number, chan, after}
 use Rattle.demands.specs.Receiving.Statement as receiving
 use Rattle.demands.specs.Receiving.Heard.{hearAll}
 use Rattle.demands.specs.Receiving.Deaf.{flagFree, endMarks, NoEndTold}
-use Rattle.demands.specs.Sending.Side.{SenderSide, sendingIn, sideOf, fullOf, latchOf, Role, Else, role, isTick, lineOf, ticks}
+use Rattle.demands.specs.Sending.Side.{sendingIn, sideOf, fullOf, latchOf, Else, role, isTick, lineOf, ticks}
 
 -- "Start during a flag with the SDLC sender on .., buffer empty, check preset to ones and included, underrun latch cleared, no break since it
 -- began": p of the flag's bits are sent. The last line is so of every chip that came from a reset by events

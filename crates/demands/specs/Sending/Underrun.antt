@@ -1,11 +1,10 @@
 -- Demand 3's underrun: the latch is set on the tick that finds the line dry and is shown then, the frame holds the bytes loaded so far, and no
 -- frame closes unseen. Assumes nothing.
 use mathlib.Core.Path.{_≡_, refl, sym, ap, _∙_}
-use mathlib.Core.Bool.{Bool, true, false, not, _&&_}
+use mathlib.Core.Bool.{true, false, not, _&&_}
 use mathlib.Core.List.{List, [], _∷_, _++_}
-use Prim.Native.Nat.{ℕ, _+_, _-_, _*_}
+use Prim.Native.Nat.{ℕ, _-_}
 use lib.Dec.{eqb}
-use Rattle.common.specs.Choice.{if_then_else_}
 use Rattle.common.specs.Tools.{if-elim}
 use Rattle.sender.specs.declared.LineUnit.{LineUnit}
 use Rattle.sender.specs.declared.LineUnit.the-variants.{Mark, Flag, Byte, Check, Abort, Character}
@@ -16,19 +15,17 @@ use Rattle.sender.specs.declared.Ticked.{Ticked}
 use Rattle.sender.specs.Sender.{core, sender, following, next, going, tickSdlc, tick}
 use Rattle.sender.specs.Laws.Tick.{tick-chooses, next-byte-check}
 use Rattle.channel.specs.declared.Status.{Status}
-use Rattle.channel.specs.declared.Channel.{Channel}
-use Rattle.channel.specs.Status.{noticed, shownBits}
-use Rattle.channel.specs.Channel.{liveOf, settled}
+use Rattle.channel.specs.Status.{noticed}
+use Rattle.channel.specs.Channel.{settled}
 use Rattle.channel.specs.Events.{transmitTick}
 use Rattle.chip.specs.declared.Chip.{Chip}
-use Rattle.chip.specs.Chip.{dataWriteCall, transmitCall}
+use Rattle.chip.specs.Chip.{transmitCall}
 use Rattle.chip.specs.Event.{Event, ControlWrite, DataWrite, Transmit, step}
 use Rattle.come.specs.Come.{Good}
-use Rattle.come.specs.Stage.{inTime}
 use Rattle.come.specs.Laws.{void, in-sdlc}
 use Rattle.demands.specs.Story.{Which, A, B, number, chan, after}
-use Rattle.demands.specs.Sending.Side.{Heeded, good, good-of, good-heeded, SenderSide, sendingIn, sideOf, latchOf, lineOf, ticks}
-use Rattle.demands.specs.Sending.Statement.{Start, InTime, over, still, writes, next-frame, ticking, RunsDry, d6, statusLatched, Underrun, UnderrunShown, Free, FedLate, NoIncident, resetStatus, ResetShows, Watched, opens, NotClosed, NeverUnseen}
+use Rattle.demands.specs.Sending.Side.{Heeded, good, good-of, good-heeded, SenderSide, sendingIn, sideOf, latchOf}
+use Rattle.demands.specs.Sending.Statement.{InTime, over, still, writes, next-frame, ticking, RunsDry, d6, statusLatched, UnderrunShown, Free, FedLate, NoIncident, resetStatus, ResetShows, Watched, opens, NotClosed, NeverUnseen}
 use Rattle.demands.specs.Sending.Statement as stated
 use Rattle.demands.specs.Sending.Frame.{tick-side, write-side, demand3}
 use Rattle.demands.specs.Sending.Shown.{d6-read, Shows, shows-read, unlatched-shows, tick-shown, event-shown, reset-seen}
