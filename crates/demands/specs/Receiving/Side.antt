@@ -1,0 +1,125 @@
+-- The chip meets the receiving side: what a receive tick and a data read of a channel do to it, and what the reads answer. Assumes nothing.
+use mathlib.Core.Path.{_≡_, refl, sym, ap, ap₂, _∙_}
+use mathlib.Core.Bool.{Bool, true, false, not, _&&_}
+use mathlib.Core.List.{List, [], _∷_, _++_}
+use Prim.Native.Nat.{ℕ}
+use lib.Dec.{eqb, leb}
+use Rattle.common.specs.Choice.{if_then_else_}
+use Rattle.common.specs.Tools.{eqb-elim, by-test, if-elim}
+use Rattle.common.specs.declared.Refusal.the-variants as refusal
+use Rattle.queue.specs.declared.Entry.{Entry}
+use Rattle.queue.specs.declared.Queue.{Queue}
+use Rattle.queue.specs.Queue.{taken, oldest, waits}
+use Rattle.queue.specs.Laws.{entryIf}
+use Rattle.receiver.specs.Receiver.{hear}
+use Rattle.settings.specs.Settings.{receivingOf}
+use Rattle.channel.specs.declared.Answer.the-variants.{Done, Gave, Refused}
+use Rattle.channel.specs.declared.Taken.the-variants.{Byte, Nothing}
+use Rattle.channel.specs.declared.DataRead as read
+use Rattle.channel.specs.declared.Channel.{Channel}
+use Rattle.channel.specs.Channel.{withQueue, withArmed, settled}
+use Rattle.channel.specs.Events.{dataRead, queued, receiveTick}
+use Rattle.chip.specs.declared.Chip.{Chip}
+use Rattle.chip.specs.declared.Outcome.{Outcome}
+use Rattle.chip.specs.Interrupts.{chip}
+use Rattle.chip.specs.Chip.{outcome, refused, takenValue, onLevel, dataReadCall, receiveCall}
+use Rattle.chip.specs.Event.{Event, HardReset, ControlWrite, ControlRead, DataWrite, DataRead, Transmit, Receive, SetLines, Acknowledge, Reti, step}
+use Rattle.demands.specs.Story.{Which, A, B, number, chan}
+use Rattle.demands.specs.Receiving.Statement.{Side, side, sideIn, sideOf, Role, Hears, Reads, Else, role, taking, valueIf, valuesOf, tookOf, bytesOf}
+use Rattle.demands.specs.Receiving.Tools.{void}
+
+abbrev pub heardSide : Bool → Side → Side
+heardSide b x = let h = hear (x .settings) (x .receiver) b in side (h .receiver) (queued (x .queue) h) (x .settings)
+
+abbrev pub readSide : Side → Side
+readSide x = side (x .receiver) (taken (x .queue)) (x .settings)
+
+-- what an event's role says of the side behind it
+abbrev pub Follows : Which → Chip → Chip → Role → Type 0
+Follows w c d (Hears b) = sideOf w d ≡ heardSide b (sideOf w c)
+Follows w c d Reads = sideOf w d ≡ readSide (sideOf w c)
+Follows w c d Else = Unit
+
+tick-follows : (w : Which) (c : Chip) (bit : ℕ) → Follows w c (step c (Receive (number w) bit) .chip) (if leb 2 bit then Else else Hears (onLevel bit))
+unfolding receiveCall receiveTick settled
+tick-follows A c bit =
+    elim (leb 2 bit) as (λ t. Follows A c ((if t then refused c refusal.Level else outcome Done (chip (receiveTick (c .a) (onLevel bit)) (c .b))) .chip)
+    (if t then Else else Hears (onLevel bit))) [ true ↦ tt | false ↦ refl ]
+tick-follows B c bit =
+    elim (leb 2 bit) as (λ t. Follows B c ((if t then refused c refusal.Level else outcome Done (chip (c .a) (receiveTick (c .b) (onLevel bit)))) .chip)
+    (if t then Else else Hears (onLevel bit))) [ true ↦ tt | false ↦ refl ]
+
+-- with none waiting a read changes nothing
+taken-none : (q : Queue) → waits q ≡ false → taken q ≡ q
+unfolding taken
+taken-none q e = by-test (λ (x : Queue). x ≡ q) (eqb (q .count) 0) (λ t. refl) (λ t. void (sym e ∙ ap not t))
+
+read-in : (c : Channel) → sideIn (dataRead c .channel) ≡ readSide (sideIn c)
+unfolding dataRead
+read-in c =
+    by-test (λ (d : read.DataRead). sideIn (d .channel) ≡ readSide (sideIn c)) (waits (c .queue)) (λ e. refl)
+    (λ e. ap (λ (q : Queue). side (c .receiver) q (receivingOf (c .registers) (c .lines))) (sym (taken-none (c .queue) e)))
+
+read-follows : (w : Which) (c : Chip) → Follows w c (step c (DataRead (number w)) .chip) Reads
+unfolding dataReadCall
+read-follows A c = read-in (c .a)
+read-follows B c = read-in (c .b)
+
+pub follows : (w : Which) (c : Chip) (e : Event) → Follows w c (step c e .chip) (role w e)
+follows w c HardReset = tt
+follows w c (ControlWrite ch v) = tt
+follows w c (ControlRead ch) = tt
+follows w c (DataWrite ch v) = tt
+follows w c (DataRead ch) =
+    eqb-elim (λ t. Follows w c (step c (DataRead ch) .chip) (if t then Reads else Else)) ch (number w) (λ e. rw e (read-follows w c)) (λ n. tt)
+follows w c (Transmit ch) = tt
+follows w c (Receive ch bit) =
+    eqb-elim (λ t. Follows w c (step c (Receive ch bit) .chip) (if t then (if leb 2 bit then Else else Hears (onLevel bit)) else Else)) ch (number w)
+    (λ e. rw e (tick-follows w c bit)) (λ n. tt)
+follows w c (SetLines ch dcd cts) = tt
+follows w c Acknowledge = tt
+follows w c Reti = tt
+
+-- what the reads answered are the bytes of the entries that they took
+
+pub bytes-append : (xs ys : List Entry) → bytesOf (xs ++ ys) ≡ bytesOf xs ++ bytesOf ys
+unfolding bytesOf
+bytes-append [] ys = refl
+bytes-append (x ∷ xs) ys = ap (λ (l : List ℕ). x .byte ∷ l) (bytes-append xs ys)
+
+abbrev Answers : Which → Chip → Outcome → Role → Type 0
+Answers w c o r = bytesOf (entryIf (taking w c r) (oldest (chan w c .queue))) ≡ valueIf (taking w c r) (o .answer)
+
+read-gives : (c : Channel) → let q = c .queue in bytesOf (entryIf (waits q) (oldest q)) ≡ valueIf (waits q) (Gave (takenValue (dataRead c .taken)))
+unfolding bytesOf dataRead
+read-gives c =
+    let q = c .queue in
+    let took : read.DataRead = record { taken = Byte (oldest q .byte); channel = withArmed (withQueue c (taken q)) false } in
+    let none : read.DataRead = record { taken = Nothing; channel = c } in
+    elim (waits q) as (λ t. bytesOf (entryIf t (oldest q)) ≡ valueIf t (Gave (takenValue ((if t then took else none) .taken)))) [ true ↦ refl | false ↦ refl ]
+
+read-answers : (w : Which) (c : Chip) → Answers w c (step c (DataRead (number w))) Reads
+unfolding dataReadCall
+read-answers A c = read-gives (c .a)
+read-answers B c = read-gives (c .b)
+
+answers : (w : Which) (c : Chip) (e : Event) → Answers w c (step c e) (role w e)
+unfolding bytesOf
+answers w c HardReset = refl
+answers w c (ControlWrite ch v) = refl
+answers w c (ControlRead ch) = refl
+answers w c (DataWrite ch v) = refl
+answers w c (DataRead ch) =
+    eqb-elim (λ t. Answers w c (step c (DataRead ch)) (if t then Reads else Else)) ch (number w) (λ e. rw e (read-answers w c)) (λ n. refl)
+answers w c (Transmit ch) = refl
+answers w c (Receive ch bit) = if-elim (Answers w c (step c (Receive ch bit))) (eqb ch (number w)) (if-elim (Answers w c (step c (Receive ch bit))) (leb 2 bit) refl refl) refl
+answers w c (SetLines ch dcd cts) = refl
+answers w c Acknowledge = refl
+answers w c Reti = refl
+
+pub values-are : (w : Which) (c : Chip) (st : List Event) → bytesOf (tookOf w c st) ≡ valuesOf w c st
+unfolding tookOf valuesOf
+values-are w c [] = unfold bytesOf in refl
+values-are w c (e ∷ st) =
+    bytes-append (entryIf (taking w c (role w e)) (oldest (chan w c .queue))) (tookOf w (step c e .chip) st)
+    ∙ ap₂ (λ (x y : List ℕ). x ++ y) (answers w c e) (values-are w (step c e .chip) st)

@@ -1,0 +1,223 @@
+-- Demand 2, receiving: "An SDLC receiver that stays on, address search off, queue empty, in hunt or just past a flag, fed a whole frame's
+-- line, read before a fourth character waits and else untouched, gives back its bytes, its check and a good mark."
+-- Said of either channel of any chip, over stories in which everything else may happen too. Assumes nothing.
+use mathlib.Core.Path.{_≡_}
+use mathlib.Core.Bool.{Bool, true, false, not, _&&_, _||_}
+use mathlib.Core.List.{List, [], _∷_, _++_}
+use Prim.Native.Nat.{ℕ, _+_, _≤_}
+use lib.Dec.{eqb, ltb, leb}
+use lib.ListN.{length, take, drop}
+use Rattle.common.specs.Choice.{if_then_else_}
+use Rattle.common.specs.declared.Mode.the-variants.{Sdlc}
+use Rattle.line.specs.Insertion.{stuff}
+use Rattle.line.specs.Check.{checkBits}
+use Rattle.line.specs.Frame.{flagBits, checkOf, contentOf, frame}
+use Rattle.line.specs.Laws.Bits.{fromLow, Below}
+use Rattle.queue.specs.declared.Entry.{Entry}
+use Rattle.queue.specs.declared.Queue.{Queue}
+use Rattle.queue.specs.Entry.{plainEntry}
+use Rattle.queue.specs.Queue.{room, oldest, waits}
+use Rattle.queue.specs.Laws.{Holds, entryIf}
+use Rattle.receiver.specs.declared.Receiving.{Receiving}
+use Rattle.receiver.specs.declared.Receiver.{Receiver}
+use Rattle.receiver.specs.declared.Heard.{Heard}
+use Rattle.receiver.specs.Sdlc.{past}
+use Rattle.receiver.specs.Receiver.{hear}
+use Rattle.settings.specs.Settings.{receivingOf}
+use Rattle.channel.specs.declared.Answer.{Answer}
+use Rattle.channel.specs.declared.Answer.the-variants.{Done, Gave, Refused}
+use Rattle.channel.specs.declared.Channel.{Channel}
+use Rattle.chip.specs.declared.Chip.{Chip}
+use Rattle.chip.specs.Chip.{onLevel}
+use Rattle.chip.specs.Event.{Event, HardReset, ControlWrite, ControlRead, DataWrite, DataRead, Transmit, Receive, SetLines, Acknowledge, Reti, step}
+use Rattle.demands.specs.Story.{Which, number, chan, after}
+
+-- The receiving side of a channel: receiver, queue, and what registers and lines say to the receiver
+
+pub record Side : Type 0 where
+  pub receiver : Receiver
+  pub queue : Queue
+  pub settings : Receiving
+
+abbrev pub side : Receiver → Queue → Receiving → Side
+side s q g = record { receiver = s; queue = q; settings = g }
+
+abbrev pub sideIn : Channel → Side
+sideIn c = side (c .receiver) (c .queue) (receivingOf (c .registers) (c .lines))
+
+abbrev pub sideOf : Which → Chip → Side
+sideOf w c = sideIn (chan w c)
+
+-- "An SDLC receiver that [is] on, address search off, queue empty, in hunt or just past a flag"
+
+pub data Start (s : Receiver) : Type 0 where
+  in-hunt : s .content .hunt ≡ true → Start s
+  past-flag : s .content ≡ past s .content → Start s
+
+-- the queue's three places are a fact of every chip with a history
+pub record Listening (x : Side) : Type 0 where
+  pub mode : x .settings .mode ≡ Sdlc
+  pub on : x .settings .on ≡ true
+  pub search : x .settings .search ≡ false
+  pub empty : x .queue .count ≡ 0
+  pub three : length (x .queue .entries) ≡ room
+  pub start : Start (x .receiver)
+
+-- What an event is to that side: a bit heard, a read, or anything else; what is refused is neither of the first two
+
+pub data Role : Type 0 where
+  Hears : Bool → Role
+  Reads : Role
+  Else : Role
+
+abbrev pub here : Which → ℕ → Bool
+here w ch = eqb ch (number w)
+
+abbrev pub role : Which → Event → Role
+role w HardReset = Else
+role w (ControlWrite ch v) = Else
+role w (ControlRead ch) = Else
+role w (DataWrite ch v) = Else
+role w (DataRead ch) = if here w ch then Reads else Else
+role w (Transmit ch) = Else
+role w (Receive ch bit) = if here w ch then (if leb 2 bit then Else else Hears (onLevel bit)) else Else
+role w (SetLines ch dcd cts) = Else
+role w Acknowledge = Else
+role w Reti = Else
+
+-- "fed": the bits that a story's receive ticks bring
+
+abbrev pub bitIn : Role → List Bool
+bitIn (Hears b) = b ∷ []
+bitIn Reads = []
+bitIn Else = []
+
+unfoldable pub bitsOf : Which → List Event → List Bool
+bitsOf w [] = []
+bitsOf w (e ∷ st) = bitIn (role w e) ++ bitsOf w st
+
+-- "stays on .. read before a fourth character waits and else untouched": a tick that hands a character over finds room, reads come as they
+-- like, and what else happens leaves the side as it was
+
+abbrev pub roomFor : Queue → Heard → Bool
+roomFor q h = not (h .some) || ltb (q .count) room
+
+abbrev pub roomy : Side → Bool → Bool
+roomy x b = roomFor (x .queue) (hear (x .settings) (x .receiver) b)
+
+pub data Fed (w : Which) : Chip → List Event → Type 0 where
+  over : {c : Chip} → Fed w c []
+  hears : {c : Chip} {e : Event} {st : List Event} {b : Bool} → role w e ≡ Hears b → roomy (sideOf w c) b ≡ true → Fed w (step c e .chip) st → Fed w c (e ∷ st)
+  reads : {c : Chip} {e : Event} {st : List Event} → role w e ≡ Reads → Fed w (step c e .chip) st → Fed w c (e ∷ st)
+  still : {c : Chip} {e : Event} {st : List Event} → role w e ≡ Else → sideOf w (step c e .chip) ≡ sideOf w c → Fed w (step c e .chip) st → Fed w c (e ∷ st)
+
+-- "gives back": what the reads answered while a character waited, and the entries that they took
+
+abbrev pub isRead : Role → Bool
+isRead (Hears b) = false
+isRead Reads = true
+isRead Else = false
+
+abbrev pub taking : Which → Chip → Role → Bool
+taking w c r = isRead r && waits (chan w c .queue)
+
+abbrev pub valueIf : Bool → Answer → List ℕ
+valueIf true Done = []
+valueIf true (Gave v) = v ∷ []
+valueIf true (Refused k) = []
+valueIf false a = []
+
+unfoldable pub valuesOf : Which → Chip → List Event → List ℕ
+valuesOf w c [] = []
+valuesOf w c (e ∷ st) = valueIf (taking w c (role w e)) (step c e .answer) ++ valuesOf w (step c e .chip) st
+
+unfoldable pub tookOf : Which → Chip → List Event → List Entry
+tookOf w c [] = []
+tookOf w c (e ∷ st) = entryIf (taking w c (role w e)) (oldest (chan w c .queue)) ++ tookOf w (step c e .chip) st
+
+unfoldable pub bytesOf : List Entry → List ℕ
+bytesOf [] = []
+bytesOf (e ∷ es) = e .byte ∷ bytesOf es
+
+-- "its bytes, its check": the check's two bytes, the first bit of each lowest
+
+unfoldable pub checkBytes : ℕ → List ℕ
+checkBytes r = fromLow (take 8 (checkBits r)) ∷ fromLow (drop 8 (checkBits r)) ∷ []
+
+abbrev pub withCheck : List ℕ → List ℕ
+withCheck note = note ++ checkBytes (checkOf note)
+
+-- "and a good mark": entries of these bytes, without any mark; the last alone has the end mark, with a check that is bad or not
+
+unfoldable pub ended : Bool → List ℕ → List Entry
+ended bad [] = []
+ended bad (v ∷ []) = plainEntry v true bad ∷ []
+ended bad (v ∷ x ∷ vs) = plainEntry v false false ∷ ended bad (x ∷ vs)
+
+-- at the end of a story: what was read, followed by what waits, is this; no latch of RR1 has changed, and the receiver is just past a flag
+
+pub record Received (w : Which) (c : Chip) (st : List Event) (bytes : List ℕ) (es : List Entry) : Type 0 where
+  pub waiting : List Entry
+  pub holds : Holds (chan w c .queue .parity) (chan w c .queue .overrun) (chan w (after c st) .queue) waiting
+  pub values : valuesOf w c st ++ bytesOf waiting ≡ bytes
+  pub marks : tookOf w c st ++ waiting ≡ es
+  pub ready : chan w (after c st) .receiver ≡ past (chan w c .receiver)
+  pub stays : sideOf w (after c st) .settings ≡ sideOf w c .settings
+
+abbrev pub Demand2 : Type 0
+Demand2 = (w : Which) (c : Chip) (st : List Event) (note : List ℕ) → Listening (sideOf w c) → 1 ≤ length note → Below 256 note → Fed w c st
+    → bitsOf w st ≡ frame note → Received w c st (withCheck note) (ended false (withCheck note))
+
+-- At every moment xs of such a story: what was read, what waits and what is yet to come
+
+pub record Moment (w : Which) (c : Chip) (st : List Event) (es : List Entry) : Type 0 where
+  pub waiting : List Entry
+  pub later : List Entry
+  pub holds : Holds (chan w c .queue .parity) (chan w c .queue .overrun) (chan w (after c st) .queue) waiting
+  pub marks : tookOf w c st ++ (waiting ++ later) ≡ es
+  pub stays : sideOf w (after c st) .settings ≡ sideOf w c .settings
+
+abbrev pub Always2 : Type 0
+Always2 = (w : Which) (c : Chip) (xs ys : List Event) (note : List ℕ) → Listening (sideOf w c) → 1 ≤ length note → Below 256 note → Fed w c (xs ++ ys)
+    → bitsOf w (xs ++ ys) ≡ frame note → Moment w c xs (ended false (withCheck note))
+
+-- RR1 at every such moment at which a character waits, both latches clear from the start: all sent, 011, frame end and no D6 if all but the
+-- last were read, so that the last is the oldest; else all sent alone
+
+abbrev pub Mark2 : Type 0
+Mark2 = (w : Which) (c : Chip) (xs ys : List Event) (note : List ℕ) → Listening (sideOf w c) → 1 ≤ length note → Below 256 note → Fed w c (xs ++ ys)
+    → bitsOf w (xs ++ ys) ≡ frame note → chan w c .queue .parity ≡ false → chan w c .queue .overrun ≡ false
+    → waits (chan w (after c xs) .queue) ≡ true → chan w (after c xs) .pointer ≡ 1
+    → step (after c xs) (ControlRead (number w)) .answer ≡ Gave (if eqb (length (valuesOf w c xs) + 1) (length note + 2) then 0b10000111 else 0b1)
+
+-- Several notes, each closing flag the next one's opening flag
+
+unfoldable pub framesOf : List (List ℕ) → List Bool
+framesOf [] = []
+framesOf (n ∷ ns) = (stuff 0 (contentOf n) ++ flagBits) ++ framesOf ns
+
+unfoldable pub allEnded : List (List ℕ) → List Entry
+allEnded [] = []
+allEnded (n ∷ ns) = ended false (withCheck n) ++ allEnded ns
+
+pub data Notes : List (List ℕ) → Type 0 where
+  no-more : Notes []
+  one-more : {v : ℕ} {vs : List ℕ} {ns : List (List ℕ)} → Below 256 (v ∷ vs) → Notes ns → Notes ((v ∷ vs) ∷ ns)
+
+abbrev pub Notes2 : Type 0
+Notes2 = (w : Which) (c : Chip) (st : List Event) (ns : List (List ℕ)) → Listening (sideOf w c) → Notes ns → Fed w c st
+    → bitsOf w st ≡ flagBits ++ framesOf ns → Received w c st (bytesOf (allEnded ns)) (allEnded ns)
+
+-- A frame with any one bit of content and check flipped: as many characters, the end mark, a bad check
+
+abbrev pub framed : List Bool → List Bool
+framed bs = flagBits ++ (stuff 0 bs ++ flagBits)
+
+pub record Found (w : Which) (c : Chip) (st : List Event) (n : ℕ) : Type 0 where
+  pub bytes : List ℕ
+  pub count : length bytes ≡ n
+  pub given : Received w c st bytes (ended true bytes)
+
+abbrev pub Flipped2 : Type 0
+Flipped2 = (w : Which) (c : Chip) (st : List Event) (note : List ℕ) (xs ys : List Bool) (b : Bool) → Listening (sideOf w c) → Fed w c st
+    → contentOf note ≡ xs ++ (b ∷ ys) → bitsOf w st ≡ framed (xs ++ (not b ∷ ys)) → Found w c st (length note + 2)

@@ -1,0 +1,10 @@
+-- Demand 3, sending: its statement, the laws that it stands on, and its proof.
+pub mod Side
+pub mod Quiet
+pub mod Statement
+pub mod Frame
+pub mod Shown
+pub mod Underrun
+pub mod Abort
+pub mod Timely
+pub mod Example

@@ -1,0 +1,199 @@
+-- Demand 3's frame: what was sent, followed by what is to come, is the frame at every moment. One induction over the story. Assumes nothing.
+use mathlib.Core.Path.{_≡_, refl, sym, ap, ap₂, _∙_}
+use mathlib.Core.Bool.{Bool, true, false}
+use mathlib.Core.List.{List, [], _∷_, _++_, append-assoc, append-nil}
+use Prim.Native.Nat.{ℕ, _+_, _-_, _≤_}
+use native.Mathlib.Omega.{arith}
+use lib.ListN.{length, take, length-append}
+use lib.Seq.{take-at}
+use Rattle.line.specs.Bits.{oneIf}
+use Rattle.line.specs.Frame.{frame}
+use Rattle.line.specs.Laws.Frame.{ticks-are}
+use Rattle.line.specs.Laws.Frame as laws
+use Rattle.sender.specs.declared.LineUnit.the-variants.{Flag}
+use Rattle.sender.specs.declared.Sender.{Sender}
+use Rattle.sender.specs.declared.Ticked.{Ticked}
+use Rattle.sender.specs.Sender.{core, sender, tick, written}
+use Rattle.sender.specs.Sound.{SoundUnit}
+use Rattle.channel.specs.Channel.{settled}
+use Rattle.channel.specs.Events.{transmitTick}
+use Rattle.chip.specs.declared.Chip.{Chip}
+use Rattle.chip.specs.Chip.{onLevel, dataWriteCall, transmitCall}
+use Rattle.chip.specs.Event.{Event, DataWrite, Transmit, step}
+use Rattle.come.specs.Come.{toCome}
+use Rattle.come.specs.Stage.{sinceAfter, inTime, Stage}
+use Rattle.come.specs.Laws.{takes, moves, later}
+use Rattle.come.specs.Start.{started, flagHead, head-length, at-start, start-stage}
+use Rattle.demands.specs.Story.{Which, A, B, number, chan, after}
+use Rattle.demands.specs.Sending.Side.{Heeded, heeded, good, good-of, good-heeded, SenderSide, side, sendingIn, sideOf, fullOf, Role, View, its-tick, its-write, other, view, ticksBy, isTick, lineBit, lineOf, ticks}
+use Rattle.demands.specs.Sending.Statement.{Start, InTime, over, still, writes, next-frame, ticking, FrameSent, FrameBegun, ZerosFew}
+
+-- What the three kinds of event are to the side
+
+abbrev pub afterTick : Which → Chip → SenderSide
+afterTick w c = side (tick (sendingIn (chan w c)) (chan w c .sender) .sender) (heeded (sendingIn (chan w c)))
+
+pub tick-side : (w : Which) (c : Chip) → sideOf w (step c (Transmit (number w)) .chip) ≡ afterTick w c
+unfolding transmitCall transmitTick settled
+tick-side A c = refl
+tick-side B c = refl
+
+level-bit : (b : Bool) → onLevel (oneIf b) ≡ b
+level-bit true = refl
+level-bit false = refl
+
+pub tick-bit : (w : Which) (c : Chip) → lineBit (isTick w (Transmit (number w))) (step c (Transmit (number w)) .answer)
+    ≡ tick (sendingIn (chan w c)) (chan w c .sender) .bit ∷ []
+unfolding transmitCall transmitTick
+tick-bit A c = ap (λ (b : Bool). b ∷ []) (level-bit (tick (sendingIn (c .a)) (c .a .sender) .bit))
+tick-bit B c = ap (λ (b : Bool). b ∷ []) (level-bit (tick (sendingIn (c .b)) (c .b .sender) .bit))
+
+pub tick-counts : (w : Which) → isTick w (Transmit (number w)) ≡ true
+tick-counts A = refl
+tick-counts B = refl
+
+pub write-side : (w : Which) (c : Chip) (v : ℕ) → sideOf w (step c (DataWrite (number w) v) .chip) ≡ side (written (chan w c .sender) v) (sideOf w c .heeds)
+unfolding dataWriteCall
+write-side A c v = refl
+write-side B c v = refl
+
+pub write-no-tick : (w : Which) (v : ℕ) → isTick w (DataWrite (number w) v) ≡ false
+write-no-tick A v = refl
+write-no-tick B v = refl
+
+-- an event that is no tick gives no bit and counts for none
+pub skip-line : (w : Which) (c : Chip) (x : Event) (st : List Event) → isTick w x ≡ false → lineOf w c (x ∷ st) ≡ lineOf w (step c x .chip) st
+unfolding lineOf
+skip-line w c x st z = ap (λ (t : Bool). lineBit t (step c x .answer) ++ lineOf w (step c x .chip) st) z
+
+pub skip-ticks : (w : Which) (x : Event) (st : List Event) → isTick w x ≡ false → ticks w (x ∷ st) ≡ ticks w st
+unfolding ticks
+skip-ticks w x st z = let h : oneIf (isTick w x) ≡ 0 = ap oneIf z in omega arith
+
+-- The law of a story in time
+
+-- at its end: what was sent and what is to come are what was to come
+pub record Conserved (a : Bool) (w : Which) (c : Chip) (st : List Event) (s : Sender) (rest left : List ℕ) : Type 0 where
+  pub last : Sender
+  pub since : ℕ
+  pub there : sideOf w (after c st) ≡ side last good
+  pub stage : Stage a last since left
+  pub whole : lineOf w c st ++ toCome last left ≡ toCome s rest
+
+-- a story that begins with an event that is no tick, from what is so behind it
+skip : {a : Bool} (w : Which) (c : Chip) (x : Event) (st : List Event) (s t : Sender) (rest more left : List ℕ) → isTick w x ≡ false
+    → toCome s rest ≡ toCome t more → Conserved a w (step c x .chip) st t more left → Conserved a w c (x ∷ st) s rest left
+unfolding after
+skip w c x st s t rest more left z e k = record {
+  last = k .last;
+  since = k .since;
+  there = k .there;
+  stage = k .stage;
+  whole = ap (λ (l : List Bool). l ++ toCome (k .last) left) (skip-line w c x st z) ∙ k .whole ∙ sym e;
+}
+
+pub conserved : {a : Bool} (w : Which) {left : List ℕ} {c : Chip} {n : ℕ} {rest : List ℕ} {st : List Event} → InTime w left c n rest st
+    → (s : Sender) → sideOf w c ≡ side s good → Stage a s n rest → ticks w st ≤ length (toCome s rest) → Conserved a w c st s rest left
+unfolding lineOf ticks after
+conserved w (over {n = n}) s e g l = record { last = s; since = n; there = e; stage = g; whole = refl }
+conserved w {left} (still {c = c} {rest = rest} {e = x} {st = st} r k i) s e g l =
+    let z = ap ticksBy r in
+    skip w c x st s s rest rest left z refl (conserved w i s (k ∙ e) g (omega (arith, skip-ticks w x st z)))
+conserved w {left} (writes {c = c} {v = v} {rest = rest} {st = st} f i) s e g l =
+    let m = moves g (sym (ap (λ (x : SenderSide). x .sender .core .full) e) ∙ f) in
+    let z = write-no-tick w v in
+    skip w c (DataWrite (number w) v) st s (written s v) (v ∷ rest) rest left z (m .0)
+    (conserved w i (written s v) (write-side w c v ∙ ap (λ (x : SenderSide). side (written (x .sender) v) (x .heeds)) e) (m .1)
+    (omega (arith, ap length (m .0), skip-ticks w (DataWrite (number w) v) st z)))
+conserved w {left} (next-frame {c = c} {v = v} {st = st} f i) s e g l =
+    let m = later v g (sym (ap (λ (x : SenderSide). x .sender .core .latch) e) ∙ f) in
+    let z = write-no-tick w v in
+    skip w c (DataWrite (number w) v) st s (written s v) [] [] left z (m .0)
+    (conserved w i (written s v) (write-side w c v ∙ ap (λ (x : SenderSide). side (written (x .sender) v) (x .heeds)) e) (m .1)
+    (omega (arith, ap length (m .0), skip-ticks w (DataWrite (number w) v) st z)))
+conserved w {left} (ticking {c = c} {n = n} {rest = rest} {st = st} f i) s e g l =
+    let o = rw (tick-counts w) at l in
+    let j = sendingIn (chan w c) in
+    let t = takes j (good-of j (ap (λ (x : SenderSide). x .heeds) e)) g (ap (λ (x : SenderSide). inTime (x .sender .core .full) n rest) (sym e) ∙ f) (omega arith) in
+    let d = step c (Transmit (number w)) .chip in
+    let same : tick j (chan w c .sender) ≡ tick j s = ap (λ (x : SenderSide). tick j (x .sender)) e in
+    let y : sideOf w d ≡ side (t .next) good =
+    tick-side w c ∙ ap₂ (λ (o : Ticked) (h : Heeded). side (o .sender) h) (same ∙ t .ticks) (ap (λ (x : SenderSide). x .heeds) e) in
+    let q : sinceAfter (s .core .full) (t .next .core .full) n ≡ sinceAfter (fullOf w c) (fullOf w d) n =
+    ap₂ (λ (x y : SenderSide). sinceAfter (x .sender .core .full) (y .sender .core .full) n) (sym e) (sym y) in
+    let k = conserved w i (t .next) y (rw q at (t .stage)) (omega (arith, ap length (t .head))) in
+    record {
+      last = k .last;
+      since = k .since;
+      there = k .there;
+      stage = k .stage;
+      whole =
+          ap (λ (b : List Bool). (b ++ lineOf w d st) ++ toCome (k .last) left) (tick-bit w c ∙ ap (λ (o : Ticked). o .bit ∷ []) (same ∙ t .ticks))
+          ∙ ap (λ (b : List Bool). t .sent ∷ b) (k .whole) ∙ sym (t .head);
+    }
+
+-- a story has as many line bits as ticks
+bit-length : (w : Which) (c : Chip) (e : Event) → length (lineBit (isTick w e) (step c e .answer)) ≡ oneIf (isTick w e)
+bit-length w c e = go w (view w e)
+  where
+    go : (w : Which) {e : Event} {r : Role} → View w e r → length (lineBit (ticksBy r) (step c e .answer)) ≡ oneIf (ticksBy r)
+    go A its-tick = unfold transmitCall transmitTick in refl
+    go B its-tick = unfold transmitCall transmitTick in refl
+    go w its-write = refl
+    go w other = refl
+
+pub line-length : (w : Which) (c : Chip) (st : List Event) → length (lineOf w c st) ≡ ticks w st
+unfolding lineOf ticks
+line-length w c [] = refl
+line-length w c (e ∷ st) =
+    omega (arith, length-append (lineBit (isTick w e) (step c e .answer)) (lineOf w (step c e .chip) st), bit-length w c e, line-length w (step c e .chip) st)
+
+-- Demand 3
+
+-- the demand's words are the state at the start
+pub start-side : (w : Which) (c : Chip) (p : ℕ) → Start w c p → sideOf w c ≡ side (started p (chan w c .sender .core .buffer)) good
+start-side w c p b =
+    let x = chan w c .sender in
+    let k = x .core in
+    let q : SoundUnit (Flag (8 - p)) (k .run) (k .owed) = rw (b .flag) at (b .history) in
+    let h = good-heeded (sendingIn (chan w c)) (b .settings) in
+    λ i. side (sender (b .flag i) (core (q .0 i) (q .1 i) (k .buffer) (b .empty i) (b .cleared i) (b .preset i))) (h i)
+
+-- what was sent and what is to come are the frame
+pub frame-kept : (w : Which) (c : Chip) (p v : ℕ) (vs left : List ℕ) (st : List Event) → Start w c p → InTime w left c (p - 1) (v ∷ vs) st
+    → p + ticks w st ≤ length (frame (v ∷ vs))
+    → (k : Conserved false w c st (started p (chan w c .sender .core .buffer)) (v ∷ vs) left) × (flagHead p ++ (lineOf w c st ++ toCome (k .last) left) ≡ frame (v ∷ vs))
+frame-kept w c p v vs left st s i n =
+    let b = chan w c .sender .core .buffer in
+    let x = started p b in
+    let a = at-start p b (v ∷ vs) (s .some) (s .inside) in
+    let k = conserved w i x (start-side w c p s) (start-stage p b v vs (s .some) (s .inside))
+    (omega (arith, head-length p (s .inside), length-append (flagHead p) (toCome x (v ∷ vs)), ap length a)) in
+    (k, ap (λ (l : List Bool). flagHead p ++ l) (k .whole) ∙ a)
+
+pub sent-length : (w : Which) (c : Chip) (p : ℕ) (st : List Event) → p ≤ 8 → length (flagHead p ++ lineOf w c st) ≡ p + ticks w st
+sent-length w c p st l = omega (arith, length-append (flagHead p) (lineOf w c st), head-length p l, line-length w c st)
+
+pub frame-begun : FrameBegun
+frame-begun w c p v vs left st s i n =
+    let k = frame-kept w c p v vs left st s i (omega (arith, ticks-are (v ∷ vs))) in
+    let sent = flagHead p ++ lineOf w c st in
+    sym (take-at sent (toCome (k .0 .last) left) (p + ticks w st) (sent-length w c p st (s .inside)))
+    ∙ ap (take (p + ticks w st)) (append-assoc (flagHead p) (lineOf w c st) (toCome (k .0 .last) left) ∙ k .1)
+
+nothing : {X : Type 0} (xs : List X) → length xs ≡ 0 → xs ≡ []
+nothing [] e = refl
+nothing (x ∷ xs) e = absurd (omega arith)
+
+pub demand3 : FrameSent
+demand3 w c p v vs st s i n =
+    let m = ticks-are (v ∷ vs) in
+    let k = frame-kept w c p v vs [] st s i (omega arith) in
+    let t = toCome (k .0 .last) [] in
+    let sent = flagHead p ++ lineOf w c st in
+    let q : sent ++ t ≡ frame (v ∷ vs) = append-assoc (flagHead p) (lineOf w c st) t ∙ k .1 in
+    let z : t ≡ [] = nothing t (omega (arith, ap length q, length-append sent t, sent-length w c p st (s .inside))) in
+    sym (ap (λ (l : List Bool). sent ++ l) z ∙ append-nil sent) ∙ q
+
+pub zeros-few : ZerosFew
+zeros-few = laws.zeros-few

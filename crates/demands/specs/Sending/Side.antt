@@ -1,0 +1,131 @@
+-- The sender's side of a channel: its sender, and what SDLC heeds of its settings. What an event is to it, and the line bits, ticks and
+-- states of a story. Assumes nothing.
+use mathlib.Core.Path.{_≡_, ap}
+use mathlib.Core.Bool.{Bool, true, false}
+use mathlib.Core.List.{List, [], _∷_, _++_}
+use Prim.Native.Nat.{ℕ, _+_}
+use lib.Dec.{eqb}
+use Rattle.common.specs.Choice.{if_then_else_}
+use Rattle.common.specs.Tools.{eqb-elim}
+use Rattle.common.specs.declared.Mode.{Mode}
+use Rattle.common.specs.declared.Mode.the-variants.{Sdlc}
+use Rattle.line.specs.Bits.{oneIf}
+use Rattle.sender.specs.declared.Sender.{Sender}
+use Rattle.sender.specs.declared.Sending.{Sending}
+use Rattle.settings.specs.Settings.{sendingOf}
+use Rattle.channel.specs.declared.Channel.{Channel}
+use Rattle.channel.specs.declared.Answer.{Answer}
+use Rattle.channel.specs.declared.Answer.the-variants.{Done, Gave, Refused}
+use Rattle.chip.specs.declared.Chip.{Chip}
+use Rattle.chip.specs.Chip.{onLevel}
+use Rattle.chip.specs.Event.{Event, HardReset, ControlWrite, ControlRead, DataWrite, DataRead, Transmit, Receive, SetLines, Acknowledge, Reti, step}
+use Rattle.come.specs.Come.{Good}
+use Rattle.demands.specs.Story.{Which, number, chan}
+
+-- what SDLC heeds of the settings: "In SDLC all characters have eight bits and no parity .. no matter what WR3, WR4, WR5 and WR7 hold"
+pub record Heeded : Type 0 where
+  pub mode : Mode
+  pub on : Bool
+  pub included : Bool
+  pub broken : Bool
+
+abbrev pub heeded : Sending → Heeded
+heeded g = record { mode = g .mode; on = g .on; included = g .included; broken = g .broken }
+
+-- demand 3: "the SDLC sender on .., check .. included, .. no break"
+abbrev pub good : Heeded
+good = record { mode = Sdlc; on = true; included = true; broken = false }
+
+pub good-of : (g : Sending) → heeded g ≡ good → Good g
+good-of g e = record {
+  sdlc-mode = ap (λ (h : Heeded). h .mode) e;
+  on = ap (λ (h : Heeded). h .on) e;
+  included = ap (λ (h : Heeded). h .included) e;
+  no-break = ap (λ (h : Heeded). h .broken) e;
+}
+
+pub good-heeded : (g : Sending) → Good g → heeded g ≡ good
+good-heeded g h = λ i. record { mode = h .sdlc-mode i; on = h .on i; included = h .included i; broken = h .no-break i }
+
+pub record SenderSide : Type 0 where
+  pub sender : Sender
+  pub heeds : Heeded
+
+abbrev pub side : Sender → Heeded → SenderSide
+side s h = record { sender = s; heeds = h }
+
+abbrev pub sendingIn : Channel → Sending
+sendingIn c = sendingOf (c .registers) (c .lines)
+
+abbrev pub sideIn : Channel → SenderSide
+sideIn c = side (c .sender) (heeded (sendingIn c))
+
+abbrev pub sideOf : Which → Chip → SenderSide
+sideOf w c = sideIn (chan w c)
+
+abbrev pub fullOf : Which → Chip → Bool
+fullOf w c = chan w c .sender .core .full
+
+abbrev pub latchOf : Which → Chip → Bool
+latchOf w c = chan w c .sender .core .latch
+
+-- What an event is to this sender: a tick, a data write, or something else. A refused call is something else
+
+pub data Role : Type 0 where
+  Ticks : Role
+  Writes : ℕ → Role
+  Else : Role
+
+abbrev pub role : Which → Event → Role
+role w HardReset = Else
+role w (ControlWrite ch v) = Else
+role w (ControlRead ch) = Else
+role w (DataWrite ch v) = if eqb ch (number w) then Writes v else Else
+role w (DataRead ch) = Else
+role w (Transmit ch) = if eqb ch (number w) then Ticks else Else
+role w (Receive ch bit) = Else
+role w (SetLines ch dcd cts) = Else
+role w Acknowledge = Else
+role w Reti = Else
+
+-- the same as something to match on: a proof by roles has three cases, whatever the number of events
+pub data View (w : Which) : Event → Role → Type 0 where
+  its-tick : View w (Transmit (number w)) Ticks
+  its-write : {v : ℕ} → View w (DataWrite (number w) v) (Writes v)
+  other : {e : Event} → View w e Else
+
+pub view : (w : Which) (e : Event) → View w e (role w e)
+view w HardReset = other
+view w (ControlWrite ch v) = other
+view w (ControlRead ch) = other
+view w (DataWrite ch v) = eqb-elim (λ t. View w (DataWrite ch v) (if t then Writes v else Else)) ch (number w) (λ e. rw e its-write) (λ n. other)
+view w (DataRead ch) = other
+view w (Transmit ch) = eqb-elim (λ t. View w (Transmit ch) (if t then Ticks else Else)) ch (number w) (λ e. rw e its-tick) (λ n. other)
+view w (Receive ch bit) = other
+view w (SetLines ch dcd cts) = other
+view w Acknowledge = other
+view w Reti = other
+
+-- The line of a story: the bits that the ticks of this channel give, and how many they are
+
+abbrev pub ticksBy : Role → Bool
+ticksBy Ticks = true
+ticksBy (Writes v) = false
+ticksBy Else = false
+
+abbrev pub isTick : Which → Event → Bool
+isTick w e = ticksBy (role w e)
+
+abbrev pub lineBit : Bool → Answer → List Bool
+lineBit false a = []
+lineBit true Done = []
+lineBit true (Gave v) = onLevel v ∷ []
+lineBit true (Refused k) = []
+
+unfoldable pub lineOf : Which → Chip → List Event → List Bool
+lineOf w c [] = []
+lineOf w c (e ∷ st) = lineBit (isTick w e) (step c e .answer) ++ lineOf w (step c e .chip) st
+
+unfoldable pub ticks : Which → List Event → ℕ
+ticks w [] = 0
+ticks w (e ∷ st) = oneIf (isTick w e) + ticks w st

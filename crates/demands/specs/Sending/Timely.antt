@@ -1,0 +1,143 @@
+-- The conditions of demand 3 as tests that a reader can run on a story, and that they are those conditions. Assumes nothing.
+use mathlib.Core.Path.{_≡_, refl, sym, ap}
+use mathlib.Core.Bool.{Bool, true, false, not, _&&_, _||_}
+use mathlib.Core.List.{List, [], _∷_, _++_}
+use Prim.Native.Nat.{ℕ, _+_, _-_, _*_}
+use lib.Dec.{eqb}
+use lib.ListN.{length}
+use borrow.Author.Tests.{eqb-true}
+use Rattle.line.specs.Frame.{frame, zerosOf}
+use Rattle.chip.specs.declared.Chip.{Chip}
+use Rattle.chip.specs.Event.{Event, step}
+use Rattle.come.specs.Stage.{sinceAfter, inTime}
+use Rattle.come.specs.Start.{flagHead}
+use Rattle.come.specs.Laws.{void}
+use Rattle.demands.specs.Story.{Which}
+use Rattle.demands.specs.Sending.Side.{SenderSide, fullOf, latchOf, Role, Ticks, Writes, Else, role, View, its-tick, its-write, other, view, ticksBy, lineOf, ticks}
+use Rattle.demands.specs.Sending.Quiet.{quiet, quiet-keeps, and-l, and-r}
+use Rattle.demands.specs.Sending.Statement.{Start, InTime, over, still, writes, next-frame, ticking, statusLatched, Free, Watched, LeftToRun}
+use Rattle.demands.specs.Sending.Statement as stated
+use Rattle.demands.specs.Sending.Frame.{write-side, write-no-tick, demand3}
+
+-- a tick before the deadline; the next byte, into the empty buffer; nothing else that touches the sender
+abbrev pub allowed : Which → Chip → ℕ → List ℕ → Event → Role → Bool
+allowed w c n rest e Ticks = inTime (fullOf w c) n rest
+allowed w c n [] e (Writes b) = latchOf w c
+allowed w c n (v ∷ rest) e (Writes b) = eqb b v && not (fullOf w c)
+allowed w c n rest e Else = quiet w c e
+
+abbrev pub unwritten : Role → List ℕ → List ℕ
+unwritten Ticks rest = rest
+unwritten (Writes b) [] = []
+unwritten (Writes b) (v ∷ rest) = rest
+unwritten Else rest = rest
+
+abbrev pub since : Role → Bool → Bool → ℕ → ℕ
+since Ticks was is n = sinceAfter was is n
+since (Writes b) was is n = n
+since Else was is n = n
+
+abbrev pub allWritten : List ℕ → Bool
+allWritten [] = true
+allWritten (v ∷ rest) = false
+
+unfoldable pub timely : Which → Chip → ℕ → List ℕ → List Event → Bool
+timely w c n rest [] = allWritten rest
+timely w c n rest (e ∷ st) =
+    allowed w c n rest e (role w e)
+    && timely w (step c e .chip) (since (role w e) (fullOf w c) (fullOf w (step c e .chip)) n) (unwritten (role w e) rest) st
+
+not-true : (t : Bool) → not t ≡ true → t ≡ false
+not-true true e = sym e
+not-true false e = refl
+
+-- one event, by its role; what follows is handed in
+one-more : (w : Which) (c : Chip) (n : ℕ) (rest : List ℕ) (e : Event) (st : List Event) (r : Role) → View w e r → role w e ≡ r → allowed w c n rest e r ≡ true
+    → InTime w [] (step c e .chip) (since r (fullOf w c) (fullOf w (step c e .chip)) n) (unwritten r rest) st → InTime w [] c n rest (e ∷ st)
+one-more w c n rest _ st Ticks its-tick q a i = ticking a i
+one-more w c n [] _ st (Writes b) its-write q a i = next-frame a i
+one-more w c n (v ∷ rest) _ st (Writes b) its-write q a i =
+    let p : b ≡ v = eqb-true b v (and-l (eqb b v) (not (fullOf w c)) a) in
+    let f = not-true (fullOf w c) (and-r (eqb b v) (not (fullOf w c)) a) in
+    rw (← p) (writes f i)
+one-more w c n rest e st Else other q a i = still q (quiet-keeps w c e a) i
+
+pub in-time : (w : Which) (c : Chip) (n : ℕ) (rest : List ℕ) (st : List Event) → timely w c n rest st ≡ true → InTime w [] c n rest st
+unfolding timely
+in-time w c n [] [] t = over
+in-time w c n (v ∷ rest) [] t = void t
+in-time w c n rest (e ∷ st) t =
+    let r = role w e in
+    let m = since r (fullOf w c) (fullOf w (step c e .chip)) n in
+    let a = and-l (allowed w c n rest e r) (timely w (step c e .chip) m (unwritten r rest) st) t in
+    let b = and-r (allowed w c n rest e r) (timely w (step c e .chip) m (unwritten r rest) st) t in
+    one-more w c n rest e st r (view w e) refl a (in-time w (step c e .chip) m (unwritten r rest) st b)
+
+-- demand 3 with the test
+pub demand3-tested : (w : Which) (c : Chip) (p v : ℕ) (vs : List ℕ) (st : List Event) → Start w c p → timely w c (p - 1) (v ∷ vs) st ≡ true
+    → p + ticks w st ≡ 8 * (length (v ∷ vs) + 2) + 16 + zerosOf (v ∷ vs) → flagHead p ++ lineOf w c st ≡ frame (v ∷ vs)
+demand3-tested w c p v vs st s t n = demand3 w c p v vs st s (in-time w c (p - 1) (v ∷ vs) st t) n
+
+-- The hosts of the underrun's theorems, likewise
+
+-- one that ticks and writes as it likes
+abbrev pub free : Which → Chip → Event → Role → Bool
+free w c e Ticks = true
+free w c e (Writes b) = true
+free w c e Else = quiet w c e
+
+unfoldable pub freely : Which → Chip → List Event → Bool
+freely w c [] = true
+freely w c (e ∷ st) = free w c e (role w e) && freely w (step c e .chip) st
+
+one-free : (w : Which) (c : Chip) (e : Event) (st : List Event) (r : Role) → View w e r → role w e ≡ r → free w c e r ≡ true → Free w (step c e .chip) st → Free w c (e ∷ st)
+one-free w c _ st Ticks its-tick q a f = stated.ticking f
+one-free w c _ st (Writes b) its-write q a f = stated.writes f
+one-free w c e st Else other q a f = stated.still q (quiet-keeps w c e a) f
+
+pub free-of : (w : Which) (c : Chip) (st : List Event) → freely w c st ≡ true → Free w c st
+unfolding freely
+free-of w c [] t = stated.ended
+free-of w c (e ∷ st) t =
+    let r = role w e in
+    one-free w c e st r (view w e) refl (and-l (free w c e r) (freely w (step c e .chip) st) t)
+    (free-of w (step c e .chip) st (and-r (free w c e r) (freely w (step c e .chip) st) t))
+
+-- one whose status is not latched at a tick while the latch is clear
+abbrev pub seeing : Which → Chip → Event → Role → Bool
+seeing w c e Ticks = latchOf w c || not (statusLatched w c)
+seeing w c e (Writes b) = true
+seeing w c e Else = quiet w c e
+
+unfoldable pub watching : Which → Chip → List Event → Bool
+watching w c [] = true
+watching w c (e ∷ st) = seeing w c e (role w e) && watching w (step c e .chip) st
+
+unlatched : (l s : Bool) → l || not s ≡ true → l ≡ false → s ≡ false
+unlatched true s t e = void (sym e)
+unlatched false s t e = not-true s t
+
+one-seen : (w : Which) (c : Chip) (e : Event) (st : List Event) (r : Role) → View w e r → role w e ≡ r → seeing w c e r ≡ true → Watched w (step c e .chip) st → Watched w c (e ∷ st)
+one-seen w c _ st Ticks its-tick q a f = stated.ticking (unlatched (latchOf w c) (statusLatched w c) a) f
+one-seen w c _ st (Writes b) its-write q a f = stated.writes f
+one-seen w c e st Else other q a f = stated.still q (quiet-keeps w c e a) f
+
+pub watched-of : (w : Which) (c : Chip) (st : List Event) → watching w c st ≡ true → Watched w c st
+unfolding watching
+watched-of w c [] t = stated.ended
+watched-of w c (e ∷ st) t =
+    let r = role w e in
+    one-seen w c e st r (view w e) refl (and-l (seeing w c e r) (watching w (step c e .chip) st) t)
+    (watched-of w (step c e .chip) st (and-r (seeing w c e r) (watching w (step c e .chip) st) t))
+
+-- such a host leaves an abort to run
+pub free-runs : (w : Which) {c : Chip} {st : List Event} → Free w c st → LeftToRun w c st
+free-runs w stated.ended = stated.ended
+free-runs w (stated.still {c = c} {e = x} r k f) =
+    stated.kept (ap ticksBy r)
+    (ap (λ (s : SenderSide). s .sender .unit) k, ap (λ (s : SenderSide). s .sender .core .owed) k, ap (λ (s : SenderSide). s .heeds) k) (free-runs w f)
+free-runs w (stated.writes {c = c} {v = v} f) =
+    let k = write-side w c v in
+    stated.kept (write-no-tick w v)
+    (ap (λ (s : SenderSide). s .sender .unit) k, ap (λ (s : SenderSide). s .sender .core .owed) k, ap (λ (s : SenderSide). s .heeds) k) (free-runs w f)
+free-runs w (stated.ticking f) = stated.ticking (free-runs w f)
