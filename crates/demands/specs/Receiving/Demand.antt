@@ -29,7 +29,7 @@ use Rattle.chip.specs.Interrupts.{anyPending, rr2}
 use Rattle.chip.specs.Chip.{controlReadCall}
 use Rattle.chip.specs.Event.{Event, ControlRead, step}
 use Rattle.demands.specs.Story.{Which, A, B, number, chan, after}
-use Rattle.demands.specs.Receiving.Statement.{Side, sideOf, past-flag, Listening, role, bitIn, bitsOf, Fed, over, hears, reads, still, valuesOf, tookOf, bytesOf, withCheck, ended, Received, Demand2, Moment, Always2, Mark2, Notes2, allEnded}
+use Rattle.demands.specs.Receiving.Statement.{Side, sideOf, past-flag, Listening, role, bitIn, bitsOf, Fed, over, hears, reads, still, valuesOf, tookOf, bytesOf, withCheck, ended, Received, Demand2, Moment, Always2, goodEnd, noEnd, Mark2, Notes2, allEnded}
 use Rattle.demands.specs.Receiving.Bytes.{withCheck-length}
 use Rattle.demands.specs.Receiving.Heard.{Final, final, before, hearAll}
 use Rattle.demands.specs.Receiving.Frame.{listening, frame-heard, notes-heard}
@@ -181,7 +181,7 @@ bytes-length [] = refl
 bytes-length (e ∷ es) = ap suc (bytes-length es)
 
 abbrev shownAt : ℕ → ℕ → ℕ
-shownAt taken all = if eqb (taken + 1) all then 0b10000111 else 0b1
+shownAt taken all = if eqb (taken + 1) all then goodEnd else noEnd
 
 rr1-shows : (w : Which) (c : Chip) (st : List Event) (vs : List ℕ) → chan w c .queue .parity ≡ false → chan w c .queue .overrun ≡ false → Moment w c st (ended false vs)
     → waits (chan w (after c st) .queue) ≡ true → rr1 (chan w (after c st) .queue) true ≡ shownAt (length (valuesOf w c st)) (length vs)
