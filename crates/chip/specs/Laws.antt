@@ -3,3 +3,4 @@ pub mod Sound
 pub mod Isolation
 pub mod Refusals
 pub mod Priority
+pub mod Contracts
