@@ -2,3 +2,4 @@ pub mod Story
 pub mod Receiving
 pub mod Sending
 pub mod Together
+pub mod Refusing
