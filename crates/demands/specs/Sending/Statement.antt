@@ -112,11 +112,30 @@ FedLate = (w : Which) (c : Chip) (p v : ℕ) (vs : List ℕ) (xs ys : List Event
     → p + ticks w (xs ++ (Transmit (number w) ∷ ys)) ≡ 8 * (length (v ∷ vs) + 2) + 16 + zerosOf (v ∷ vs)
     → flagHead p ++ lineOf w c (xs ++ (Transmit (number w) ∷ ys)) ≡ frame (v ∷ vs)
 
--- and D6 reads 1 from that tick on, at every moment until the host clears the latch: the incident cannot happen to a host whose status was
--- not latched when the line ran dry
-abbrev pub NoIncident : Type 0
-NoIncident = (w : Which) (c : Chip) (ys : List Event) → RunsDry w c → statusLatched w c ≡ false → Free w (step c (Transmit (number w)) .chip) ys
+-- and D6 reads 1 from that tick on, at every moment until the host clears the latch, if status was not latched when the line ran dry
+abbrev pub UnderrunSeen : Type 0
+UnderrunSeen = (w : Which) (c : Chip) (ys : List Event) → RunsDry w c → statusLatched w c ≡ false → Free w (step c (Transmit (number w)) .chip) ys
     → let d = after c (Transmit (number w) ∷ ys) in chan w d .pointer ≡ 0 → d6 w d ≡ true
+
+-- "One morning the planner fed the software chip late. The line ran dry .., the frame closed with a good check, and the underrun bit on which the
+-- planner aborts never came up": of the bytes meant only the first went out, and a host whose status was not latched reads D6 as 0 behind the
+-- frame. There is no such story
+pub record Incident (w : Which) (c : Chip) (meant : List ℕ) (xs ys : List Event) : Type 0 where
+  pub p : ℕ
+  pub v : ℕ
+  pub vs : List ℕ
+  pub start : Start w c p
+  pub fed : InTime w [] c (p - 1) (v ∷ vs) xs
+  pub fewer : length (v ∷ vs) < length meant
+  pub dry : RunsDry w (after c xs)
+  pub unlatched : statusLatched w (after c xs) ≡ false
+  pub late : Free w (step (after c xs) (Transmit (number w)) .chip) ys
+  pub closed : flagHead p ++ lineOf w c (xs ++ (Transmit (number w) ∷ ys)) ≡ frame (v ∷ vs)
+  pub looks : chan w (after c (xs ++ (Transmit (number w) ∷ ys))) .pointer ≡ 0
+  pub unseen : d6 w (after c (xs ++ (Transmit (number w) ∷ ys))) ≡ false
+
+abbrev pub NoIncident : Type 0
+NoIncident = (w : Which) (c : Chip) (meant : List ℕ) (xs ys : List Event) → Incident w c meant xs ys → ⊥
 
 -- a host whose status was latched reads D6 as 1 behind its next Reset External/Status
 abbrev pub resetStatus : ℕ
