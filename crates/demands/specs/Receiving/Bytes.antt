@@ -3,14 +3,14 @@ use mathlib.Core.Path.{_≡_, refl, sym, ap, ap₂, _∙_}
 use mathlib.Core.Logic.{_≢_}
 use mathlib.Core.Bool.{Bool, true, false, not}
 use mathlib.Core.List.{List, [], _∷_, _++_, append-nil}
-use Prim.Native.Nat.{ℕ, zero, suc, _+_, _*_, _/_, _%_, _^_, _≤_, _<_}
+use Prim.Native.Nat.{ℕ, zero, suc, _+_, _*_, _/_, _%_, _≤_, _<_}
 use native.Mathlib.Omega.{arith}
 use lib.Dec.{T, eqb, eqb→eq}
 use lib.Bits.{bitXor, differ, xor-self, xor-zero-l, xor-zero-r}
 use lib.ListN.{length, take, drop, replicate, length-append, length-take, length-drop, take-append-drop}
 use Rattle.common.specs.Choice.{if_then_else_}
 use Rattle.common.specs.Tools.{below, below→, eqb-elim}
-use Rattle.line.specs.Bits.{oneIf, lowBits, textBits}
+use Rattle.line.specs.Bits.{lowBits, textBits}
 use Rattle.line.specs.Check.{sdlc, ones, differs, checkStep, checkOver, checkBits, remainder}
 use Rattle.line.specs.Frame.{noteBits, checkOf, contentOf}
 use Rattle.line.specs.Laws.Bits.{fromLow, lowBits-fromLow, fromLow-lt, textBits-join, Below, none, more}

@@ -1,7 +1,7 @@
 -- Conservation, for any bits on the line: what was read, then what waits, is what waited before, then what was handed over. Assumes nothing.
 use mathlib.Core.Path.{_≡_, refl, sym, ap, ap₂, _∙_, subst}
 use mathlib.Core.Bool.{Bool, true, false, not, _&&_, _||_}
-use mathlib.Core.List.{List, [], _∷_, _++_, append-assoc, append-nil}
+use mathlib.Core.List.{List, _++_, append-assoc, append-nil}
 use lib.Dec.{ltb}
 use Rattle.common.specs.Choice.{if_then_else_}
 use Rattle.common.specs.declared.Mode.the-variants.{Sdlc}
@@ -18,7 +18,7 @@ use Rattle.channel.specs.Events.{queued}
 use Rattle.chip.specs.declared.Chip.{Chip}
 use Rattle.chip.specs.Event.{Event, step}
 use Rattle.demands.specs.Story.{Which, chan, after}
-use Rattle.demands.specs.Receiving.Statement.{Side, side, sideOf, Role, Hears, Reads, Else, role, bitIn, bitsOf, roomFor, Fed, over, hears, reads, still, isRead, taking, tookOf}
+use Rattle.demands.specs.Receiving.Statement.{Side, side, sideOf, Role, bitIn, bitsOf, roomFor, Fed, over, hears, reads, still, isRead, taking, tookOf}
 use Rattle.demands.specs.Receiving.Heard.{handed, before, before-join, hearAll}
 use Rattle.demands.specs.Receiving.Side.{heardSide, readSide, Follows, follows}
 

@@ -82,6 +82,15 @@ plain-no-end false v = refl
 never-deaf : {X : Type 0} (a b : Bool) → a || b ≡ true → a ≡ false → b ≡ false → X
 never-deaf a b d p q = void (sym q ∙ sym (ap (λ (t : Bool). t || b) p) ∙ d)
 
+counted-few : (o : ℕ) → o < 6 → o + 1 ≡ counted o
+counted-few o l = rw (lt-ltb o 7 (omega arith))
+
+counted-many : (o : ℕ) → 6 ≤ o → 7 ≡ counted o
+counted-many o l = ltb-elim (λ t. 7 ≡ (if t then o + 1 else 7)) o 7 (λ m. omega arith) (λ m. refl)
+
+counted-on : (o k : ℕ) → 6 ≤ o + suc k → 6 ≤ counted o + k
+counted-on o k l = ltb-elim (λ t. 6 ≤ (if t then o + 1 else 7) + k) o 7 (λ m. omega arith) (λ m. omega arith)
+
 module _ (g : Receiving) (s : Receiver) where
   accept-no-end : (o : ℕ) (x : Bool) (d : ℕ) (b : Bool) → NoEnd (accept g s o x d b)
   unfolding accept
@@ -113,12 +122,6 @@ module _ (g : Receiving) (s : Receiver) where
   push-counts : (o : ℕ) (x b : Bool) → Counts o (push g s o x b)
   unfolding push
   push-counts o x b = let d = s .content .delay in if-elim (Counts o) (ltb d fullDelay) refl (accept-counts o x (spilled d b) (oldestBit d))
-
-  counted-few : (o : ℕ) → o < 6 → o + 1 ≡ counted o
-  counted-few o l = rw (lt-ltb o 7 (omega arith))
-
-  counted-many : (o : ℕ) → 6 ≤ o → 7 ≡ counted o
-  counted-many o l = ltb-elim (λ t. 7 ≡ (if t then o + 1 else 7)) o 7 (λ m. omega arith) (λ m. refl)
 
   one-counts : Counts (counted (s .content .ones)) (one g s)
   unfolding one
@@ -234,9 +237,7 @@ module _ (g : Receiving) (m : g .mode ≡ Sdlc) (o : g .on ≡ true) where
   pub ones-deafen : (k : ℕ) (s : Receiver) → 6 ≤ s .content .ones + k → Deaf (hearAll g s (replicate (suc k) true) .receiver)
   unfolding hearAll
   ones-deafen zero s l = subst (λ (h : Heard). Deaf (h .receiver)) (sym (heard-as s true)) (one-deafens g s (omega arith))
-  ones-deafen (suc k) s l =
-      ones-deafen k (hear g s true .receiver)
-      (omega (arith, hear-counts s true, ltb-elim (λ t. 6 ≤ (if t then s .content .ones + 1 else 7) + k) (s .content .ones) 7 (λ i. omega arith) (λ i. omega arith)))
+  ones-deafen (suc k) s l = ones-deafen k (hear g s true .receiver) (omega (arith, hear-counts s true, counted-on (s .content .ones) k l))
 
   pub seven-deafen : (n : ℕ) (s : Receiver) → 7 ≤ n → Deaf (hearAll g s (replicate n true) .receiver)
   seven-deafen zero s l = absurd (omega arith)
@@ -249,21 +250,14 @@ unfolding flagFree
 ones-free o zero = refl
 ones-free o (suc n) = ones-free (counted o) n
 
-ones-seven : (n o : ℕ) → o ≤ 7 → 7 ≤ o + n → onesOver o (replicate n true) ≡ 7
+ones-seven : (n o : ℕ) → 6 ≤ o + n → onesOver o (replicate (suc n) true) ≡ 7
 unfolding onesOver
-ones-seven zero o h l = omega arith
-ones-seven (suc n) o h l =
-    ltb-elim (λ t. onesOver (if t then o + 1 else 7) (replicate n true) ≡ 7) o 7
-    (λ i. ones-seven n (o + 1) (omega arith) (omega arith))
-    (λ i. ones-seven n 7 (omega arith) (omega arith))
+ones-seven zero o l = sym (counted-many o (omega arith))
+ones-seven (suc n) o l = ones-seven n (counted o) (counted-on o n l)
 
 seven-counted : (n o : ℕ) → 7 ≤ n → onesOver o (replicate n true) ≡ 7
-unfolding onesOver
 seven-counted zero o l = absurd (omega arith)
-seven-counted (suc n) o l =
-    ltb-elim (λ t. onesOver (if t then o + 1 else 7) (replicate n true) ≡ 7) o 7
-    (λ i. ones-seven n (o + 1) (omega arith) (omega arith))
-    (λ i. ones-seven n 7 (omega arith) (omega arith))
+seven-counted (suc n) o l = ones-seven n o (omega arith)
 
 -- THE ABORT, heard: a line without a flag, seven ones or more, again a line without a flag, and the bit that may complete one
 

@@ -1,8 +1,8 @@
 -- Demand 2, proved: at the end of a story, at every moment of it, for several notes, and RR1 as it is read. Assumes nothing.
-use mathlib.Core.Path.{_≡_, refl, sym, ap, ap₂, _∙_, subst}
+use mathlib.Core.Path.{_≡_, refl, sym, ap, _∙_, subst}
 use mathlib.Core.Bool.{Bool, true, false, not, _&&_, _||_}
 use mathlib.Core.List.{List, [], _∷_, _++_, append-assoc, append-nil}
-use Prim.Native.Nat.{ℕ, suc, _+_, _≤_}
+use Prim.Native.Nat.{ℕ, suc, _+_}
 use native.Mathlib.Omega.{arith}
 use lib.Dec.{eqb}
 use lib.ListN.{length, length-append}
@@ -11,8 +11,6 @@ use Rattle.common.specs.Choice.{if_then_else_}
 use Rattle.common.specs.declared.Mode.{Mode}
 use Rattle.common.specs.declared.Mode.the-variants.{Sdlc}
 use Rattle.common.specs.Mode.{inSdlc}
-use Rattle.line.specs.Frame.{flagBits, frame}
-use Rattle.line.specs.Laws.Bits.{Below}
 use Rattle.queue.specs.declared.Entry.{Entry}
 use Rattle.queue.specs.declared.Queue.{Queue}
 use Rattle.queue.specs.Entry.{plainEntry}
@@ -22,7 +20,7 @@ use Rattle.receiver.specs.declared.Receiving.{Receiving}
 use Rattle.receiver.specs.declared.Receiver.{Receiver}
 use Rattle.receiver.specs.Sdlc.{past}
 use Rattle.sender.specs.Sender.{underWay}
-use Rattle.settings.specs.Settings.{modeOf, sendingOf, receivingOf}
+use Rattle.settings.specs.Settings.{sendingOf, receivingOf}
 use Rattle.channel.specs.declared.Channel.{Channel}
 use Rattle.channel.specs.declared.Answer.the-variants.{Gave}
 use Rattle.channel.specs.Control.{rr1Now, readRegister}
@@ -31,7 +29,7 @@ use Rattle.chip.specs.Interrupts.{anyPending, rr2}
 use Rattle.chip.specs.Chip.{controlReadCall}
 use Rattle.chip.specs.Event.{Event, ControlRead, step}
 use Rattle.demands.specs.Story.{Which, A, B, number, chan, after}
-use Rattle.demands.specs.Receiving.Statement.{Side, side, sideOf, past-flag, Listening, role, bitIn, bitsOf, Fed, over, hears, reads, still, valuesOf, tookOf, bytesOf, withCheck, ended, Received, Demand2, Moment, Always2, Mark2, Notes2, framesOf, allEnded, Notes}
+use Rattle.demands.specs.Receiving.Statement.{Side, sideOf, past-flag, Listening, role, bitIn, bitsOf, Fed, over, hears, reads, still, valuesOf, tookOf, bytesOf, withCheck, ended, Received, Demand2, Moment, Always2, goodEnd, noEnd, Mark2, Notes2, allEnded}
 use Rattle.demands.specs.Receiving.Bytes.{withCheck-length}
 use Rattle.demands.specs.Receiving.Heard.{Final, final, before, hearAll}
 use Rattle.demands.specs.Receiving.Frame.{listening, frame-heard, notes-heard}
@@ -183,7 +181,7 @@ bytes-length [] = refl
 bytes-length (e ∷ es) = ap suc (bytes-length es)
 
 abbrev shownAt : ℕ → ℕ → ℕ
-shownAt taken all = if eqb (taken + 1) all then 0b10000111 else 0b1
+shownAt taken all = if eqb (taken + 1) all then goodEnd else noEnd
 
 rr1-shows : (w : Which) (c : Chip) (st : List Event) (vs : List ℕ) → chan w c .queue .parity ≡ false → chan w c .queue .overrun ≡ false → Moment w c st (ended false vs)
     → waits (chan w (after c st) .queue) ≡ true → rr1 (chan w (after c st) .queue) true ≡ shownAt (length (valuesOf w c st)) (length vs)

@@ -3,7 +3,6 @@
 use mathlib.Core.Path.{_≡_, refl}
 use mathlib.Core.Bool.{Bool, true, false}
 use mathlib.Core.List.{List, [], _∷_, _++_}
-use Prim.Native.Nat.{ℕ}
 use native.Mathlib.Omega.{arith}
 use Rattle.line.specs.Bits.{oneIf, lowBits, textBits}
 use Rattle.line.specs.Check.{checkStep, checkOver, topBits, checkBits}
@@ -25,7 +24,7 @@ use Rattle.chip.specs.Interrupts.{highestOf, pendingLevel, serviceLevel, anyPen
 use Rattle.chip.specs.Chip.{hardReset, controlWriteA, controlWrite, controlReadCall, dataWriteCall, dataReadCall, transmitCall, receiveCall, linesCall}
 use Rattle.chip.specs.Event.{Event, ControlWrite, ControlRead, DataWrite, DataRead, Transmit, Receive, SetLines, Acknowledge, Reti, step}
 use Rattle.demands.specs.Story.{A, after}
-use Rattle.demands.specs.Receiving.Statement.{sideOf, Listening, in-hunt, bitsOf, valuesOf, checkBytes, withCheck, ended, Received}
+use Rattle.demands.specs.Receiving.Statement.{sideOf, Listening, in-hunt, bitsOf, valuesOf, checkBytes, withCheck, ended, Received, goodEnd}
 use Rattle.demands.specs.Receiving.Room.{inRoom, demand2-run}
 
 -- from a hard reset: WR4 for SDLC, WR3 on
@@ -58,7 +57,7 @@ pub record Examples : Type 0 where
   pub check : withCheck (0xFF ∷ []) ≡ 0xFF ∷ 0x00 ∷ 0xFF ∷ []
   -- three may wait unread; RR1 shows the last one's mark when the two before it are read; a fourth finds no room
   pub three : inRoom A begin unread ≡ true
-  pub mark : step (after begin (unread ++ (DataRead 0 ∷ DataRead 0 ∷ ControlWrite 0 1 ∷ []))) (ControlRead 0) .answer ≡ Gave 0b10000111
+  pub mark : step (after begin (unread ++ (DataRead 0 ∷ DataRead 0 ∷ ControlWrite 0 1 ∷ []))) (ControlRead 0) .answer ≡ Gave goodEnd
   pub fourth : inRoom A begin (story [] (frame (0xFF ∷ 0x88 ∷ []))) ≡ false
   -- a WR3 write is not quiet, whatever it writes
   pub touched : inRoom A begin (story (ControlWrite 0 3 ∷ ControlWrite 0 0b1 ∷ []) (frame (0xFF ∷ []))) ≡ false

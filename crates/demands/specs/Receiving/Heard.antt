@@ -1,6 +1,6 @@
 -- The SDLC receiver over a stream of bits: where it ends, and what it has handed over. Assumes nothing.
 use mathlib.Core.Path.{_≡_, refl, sym, ap, _∙_}
-use mathlib.Core.Bool.{Bool, true, false}
+use mathlib.Core.Bool.{Bool}
 use mathlib.Core.List.{List, [], _∷_, _++_, append-assoc}
 use Rattle.queue.specs.declared.Entry.{Entry}
 use Rattle.queue.specs.Laws.{entryIf}

@@ -5,12 +5,8 @@ use Prim.Native.Nat.{ℕ, _/_}
 use lib.Dec.{eqb, ltb, leb}
 use Rattle.common.specs.Choice.{if_then_else_}
 use Rattle.common.specs.Tools.{by-test, if-elim}
-use Rattle.common.specs.declared.Refusal.the-variants.{Setting}
 use Rattle.line.specs.Bits.{odd}
 use Rattle.line.specs.Check.{differs}
-use Rattle.receiver.specs.declared.Receiving.{Receiving}
-use Rattle.settings.specs.declared.Registers.{Registers}
-use Rattle.settings.specs.declared.Lines.{Lines}
 use Rattle.settings.specs.Settings.{store5, store6, store7, commandIn, presetIn, autoEnables, modeOf, lengthOf, notBuilt, receivingOf}
 use Rattle.channel.specs.declared.Side as channel
 use Rattle.channel.specs.declared.Side.the-variants as side

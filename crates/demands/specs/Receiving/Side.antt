@@ -1,6 +1,6 @@
 -- The chip meets the receiving side: what a receive tick and a data read of a channel do to it, and what the reads answer. Assumes nothing.
 use mathlib.Core.Path.{_≡_, refl, sym, ap, ap₂, _∙_}
-use mathlib.Core.Bool.{Bool, true, false, not, _&&_}
+use mathlib.Core.Bool.{Bool, true, false, not}
 use mathlib.Core.List.{List, [], _∷_, _++_}
 use Prim.Native.Nat.{ℕ}
 use lib.Dec.{eqb, leb}
@@ -13,7 +13,7 @@ use Rattle.queue.specs.Queue.{taken, oldest, waits}
 use Rattle.queue.specs.Laws.{entryIf}
 use Rattle.receiver.specs.Receiver.{hear}
 use Rattle.settings.specs.Settings.{receivingOf}
-use Rattle.channel.specs.declared.Answer.the-variants.{Done, Gave, Refused}
+use Rattle.channel.specs.declared.Answer.the-variants.{Done, Gave}
 use Rattle.channel.specs.declared.Taken.the-variants.{Byte, Nothing}
 use Rattle.channel.specs.declared.DataRead as read
 use Rattle.channel.specs.declared.Channel.{Channel}

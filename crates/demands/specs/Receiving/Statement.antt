@@ -181,14 +181,20 @@ abbrev pub Always2 : Type 0
 Always2 = (w : Which) (c : Chip) (xs ys : List Event) (note : List ℕ) → Listening (sideOf w c) → 1 ≤ length note → Below 256 note → Fed w c (xs ++ ys)
     → bitsOf w (xs ++ ys) ≡ frame note → Moment w c xs (ended false (withCheck note))
 
--- RR1 at every such moment at which a character waits, both latches clear from the start: all sent, 011, frame end and no D6 if all but the
--- last were read, so that the last is the oldest; else all sent alone
+-- RR1 with all sent, 011, frame end and no D6, and with all sent alone
+abbrev pub goodEnd : ℕ
+goodEnd = 0b10000111
 
+abbrev pub noEnd : ℕ
+noEnd = 0b1
+
+-- RR1 at every such moment at which a character waits, both latches clear from the start: the mark is shown exactly if all but the last were
+-- read, so that the last is the oldest
 abbrev pub Mark2 : Type 0
 Mark2 = (w : Which) (c : Chip) (xs ys : List Event) (note : List ℕ) → Listening (sideOf w c) → 1 ≤ length note → Below 256 note → Fed w c (xs ++ ys)
     → bitsOf w (xs ++ ys) ≡ frame note → chan w c .queue .parity ≡ false → chan w c .queue .overrun ≡ false
     → waits (chan w (after c xs) .queue) ≡ true → chan w (after c xs) .pointer ≡ 1
-    → step (after c xs) (ControlRead (number w)) .answer ≡ Gave (if eqb (length (valuesOf w c xs) + 1) (length note + 2) then 0b10000111 else 0b1)
+    → step (after c xs) (ControlRead (number w)) .answer ≡ Gave (if eqb (length (valuesOf w c xs) + 1) (length note + 2) then goodEnd else noEnd)
 
 -- Several notes, each closing flag the next one's opening flag
 
