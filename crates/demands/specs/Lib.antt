@@ -1,3 +1,4 @@
 pub mod Story
 pub mod Receiving
 pub mod Sending
+pub mod Together

@@ -1,0 +1,29 @@
+-- Sender and receiver together: what channel w of one chip sends in time, channel u of another that listens gives back. Assumes nothing.
+use mathlib.Core.Path.{_≡_, _∙_}
+use mathlib.Core.List.{List, [], _∷_, _++_}
+use mathlib.Core.Bool.{false}
+use Prim.Native.Nat.{ℕ, _+_, _-_, _*_}
+use native.Mathlib.Omega.{arith}
+use lib.ListN.{length}
+use Rattle.line.specs.Frame.{zerosOf}
+use Rattle.line.specs.Laws.Bits.{Below}
+use Rattle.chip.specs.declared.Chip.{Chip}
+use Rattle.chip.specs.Event.{Event}
+use Rattle.come.specs.Start.{flagHead}
+use Rattle.demands.specs.Story.{Which}
+use Rattle.demands.specs.Receiving.Statement.{Listening, Fed, bitsOf, Received, withCheck, ended}
+use Rattle.demands.specs.Receiving.Statement as receiving
+use Rattle.demands.specs.Receiving.Demand.{demand2}
+use Rattle.demands.specs.Sending.Side.{lineOf, ticks}
+use Rattle.demands.specs.Sending.Statement.{Start, InTime}
+use Rattle.demands.specs.Sending.Frame.{demand3}
+
+-- the bits that r hears are those that c sends, from the first bit of its opening flag on
+abbrev pub Together : Type 0
+Together = (w : Which) (c : Chip) (p v : ℕ) (vs : List ℕ) (st : List Event) → Start w c p → InTime w [] c (p - 1) (v ∷ vs) st
+    → p + ticks w st ≡ 8 * (length (v ∷ vs) + 2) + 16 + zerosOf (v ∷ vs) → Below 256 (v ∷ vs)
+    → (u : Which) (r : Chip) (rs : List Event) → Listening (receiving.sideOf u r) → Fed u r rs → bitsOf u rs ≡ flagHead p ++ lineOf w c st
+    → Received u r rs (withCheck (v ∷ vs)) (ended false (withCheck (v ∷ vs)))
+
+pub together : Together
+together w c p v vs st s i n b u r rs l f e = demand2 u r rs (v ∷ vs) l (omega arith) b f (e ∙ demand3 w c p v vs st s i n)
