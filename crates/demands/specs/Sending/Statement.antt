@@ -1,4 +1,4 @@
--- Demand 3, sending, in its own words, over the events of the chip and for either channel w. Proofs: Frame, Timely, Underrun, Abort.
+-- Demand 3, sending, in its own words, over the events of the chip and for either channel w. Proofs: Frame, Chain, Underrun, Abort.
 -- Assumes nothing.
 use mathlib.Core.Path.{_≡_}
 use mathlib.Core.Bool.{Bool, true, false}
@@ -71,6 +71,29 @@ FrameBegun = (w : Which) (c : Chip) (p v : ℕ) (vs left : List ℕ) (st : List 
 -- "at most 8(n+2)/5 rounded down"
 abbrev pub ZerosFew : Type 0
 ZerosFew = (note : List ℕ) → zerosOf note ≤ 8 * (length note + 2) / 5
+
+-- 01, Note list and line: "a closing flag opens the next frame". Within a flag, as it stands behind p of its bits
+pub record Closing (w : Which) (c : Chip) (p : ℕ) : Type 0 where
+  pub some : 1 ≤ p
+  pub inside : p ≤ 8
+  pub flag : chan w c .sender .unit ≡ Flag (8 - p)
+  pub empty : fullOf w c ≡ false
+  pub settings : Good (sendingIn (chan w c))
+  pub history : SoundSender (chan w c .sender)
+  pub to-wr0 : chan w c .pointer ≡ 0
+
+-- WR0, "D7-6: .. 2 preset Tx check, 3 clear Underrun latch"
+abbrev pub anew : Which → List Event
+anew w = ControlWrite (number w) 0b10000000 ∷ ControlWrite (number w) 0b11000000 ∷ []
+
+abbrev pub StartsAnew : Type 0
+StartsAnew = (w : Which) (c : Chip) (p : ℕ) → Closing w c p → Start w (after c (anew w)) p
+
+-- and such a flag is where a frame ends
+abbrev pub FrameEnds : Type 0
+FrameEnds = (w : Which) (c : Chip) (p v : ℕ) (vs : List ℕ) (st : List Event) → Start w c p → InTime w [] c (p - 1) (v ∷ vs) st
+    → p + ticks w st ≡ 8 * (length (v ∷ vs) + 2) + 16 + zerosOf (v ∷ vs) → fullOf w (after c st) ≡ false → chan w (after c st) .pointer ≡ 0
+    → Closing w (after c st) 8
 
 -- "If the buffer is empty at the first tick after a byte and any owed zero": the chip before that tick
 pub record RunsDry (w : Which) (c : Chip) : Type 0 where
