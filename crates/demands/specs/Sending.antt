@@ -3,6 +3,7 @@ pub mod Side
 pub mod Quiet
 pub mod Statement
 pub mod Frame
+pub mod Chain
 pub mod Shown
 pub mod Underrun
 pub mod Abort

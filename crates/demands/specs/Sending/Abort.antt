@@ -207,8 +207,8 @@ flag-ones : (o : ℕ) → onesOver o flagBits ≡ 0
 unfolding onesOver
 flag-ones o = refl
 
-pub abort-untold3 : AbortUntold
-abort-untold3 w c p v vs left xs s i n l u r rs parity overrun es zs b m o z h e f k j =
+pub abort-unheard : AbortUntold
+abort-unheard w c p v vs left xs s i n l u r rs parity overrun es zs b m o z h e f k j =
     let t = ticks-are (v ∷ vs) in
     let sent = flagHead p ++ lineOf w c xs in
     let q = frame-begun w c p v vs left xs s i (omega arith) in

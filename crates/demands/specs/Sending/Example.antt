@@ -30,7 +30,7 @@ use Rattle.demands.specs.Receiving.Heard.{hearAll}
 use Rattle.demands.specs.Receiving.Deaf.{endMarks}
 use Rattle.demands.specs.Sending.Side.{lineOf, ticks}
 use Rattle.demands.specs.Sending.Statement.{Start, RunsDry, d6, statusLatched, resetStatus, SendsAbort, Aborted, NotClosed}
-use Rattle.demands.specs.Sending.Underrun.{fed-late, no-incident, never-unseen}
+use Rattle.demands.specs.Sending.Underrun.{fed-late, underrun-seen, never-unseen}
 use Rattle.demands.specs.Sending.Abort.{abort3}
 use Rattle.demands.specs.Sending.Timely.{timely, in-time, demand3-tested, freely, free-of, watching, watched-of}
 
@@ -180,7 +180,7 @@ aborted-sent =
 
 late-seen : d6 A (after choosing (Transmit 0 ∷ late)) ≡ true
 late-seen =
-    no-incident A choosing late (examples .runs-dry) (examples .unlatched) (free-of A (step choosing (Transmit 0) .chip) late (examples .late-free))
+    underrun-seen A choosing late (examples .runs-dry) (examples .unlatched) (free-of A (step choosing (Transmit 0) .chip) late (examples .late-free))
     (examples .at-wr0 .1)
 
 dry-open : NotClosed A choosing

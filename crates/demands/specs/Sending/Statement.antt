@@ -1,4 +1,4 @@
--- Demand 3, sending, in its own words, over the events of the chip and for either channel w. Proofs: Frame, Timely, Underrun, Abort.
+-- Demand 3, sending, in its own words, over the events of the chip and for either channel w. Proofs: Frame, Chain, Underrun, Abort.
 -- Assumes nothing.
 use mathlib.Core.Path.{_≡_}
 use mathlib.Core.Bool.{Bool, true, false}
@@ -72,6 +72,29 @@ FrameBegun = (w : Which) (c : Chip) (p v : ℕ) (vs left : List ℕ) (st : List 
 abbrev pub ZerosFew : Type 0
 ZerosFew = (note : List ℕ) → zerosOf note ≤ 8 * (length note + 2) / 5
 
+-- 01, Note list and line: "a closing flag opens the next frame". Within a flag, as it stands behind p of its bits
+pub record Closing (w : Which) (c : Chip) (p : ℕ) : Type 0 where
+  pub some : 1 ≤ p
+  pub inside : p ≤ 8
+  pub flag : chan w c .sender .unit ≡ Flag (8 - p)
+  pub empty : fullOf w c ≡ false
+  pub settings : Good (sendingIn (chan w c))
+  pub history : SoundSender (chan w c .sender)
+  pub to-wr0 : chan w c .pointer ≡ 0
+
+-- WR0, "D7-6: .. 2 preset Tx check, 3 clear Underrun latch"
+abbrev pub anew : Which → List Event
+anew w = ControlWrite (number w) 0b10000000 ∷ ControlWrite (number w) 0b11000000 ∷ []
+
+abbrev pub StartsAnew : Type 0
+StartsAnew = (w : Which) (c : Chip) (p : ℕ) → Closing w c p → Start w (after c (anew w)) p
+
+-- and such a flag is where a frame ends
+abbrev pub FrameEnds : Type 0
+FrameEnds = (w : Which) (c : Chip) (p v : ℕ) (vs : List ℕ) (st : List Event) → Start w c p → InTime w [] c (p - 1) (v ∷ vs) st
+    → p + ticks w st ≡ 8 * (length (v ∷ vs) + 2) + 16 + zerosOf (v ∷ vs) → fullOf w (after c st) ≡ false → chan w (after c st) .pointer ≡ 0
+    → Closing w (after c st) 8
+
 -- "If the buffer is empty at the first tick after a byte and any owed zero": the chip before that tick
 pub record RunsDry (w : Which) (c : Chip) : Type 0 where
   pub last : ℕ
@@ -112,11 +135,30 @@ FedLate = (w : Which) (c : Chip) (p v : ℕ) (vs : List ℕ) (xs ys : List Event
     → p + ticks w (xs ++ (Transmit (number w) ∷ ys)) ≡ 8 * (length (v ∷ vs) + 2) + 16 + zerosOf (v ∷ vs)
     → flagHead p ++ lineOf w c (xs ++ (Transmit (number w) ∷ ys)) ≡ frame (v ∷ vs)
 
--- and D6 reads 1 from that tick on, at every moment until the host clears the latch: the incident cannot happen to a host whose status was
--- not latched when the line ran dry
-abbrev pub NoIncident : Type 0
-NoIncident = (w : Which) (c : Chip) (ys : List Event) → RunsDry w c → statusLatched w c ≡ false → Free w (step c (Transmit (number w)) .chip) ys
+-- and D6 reads 1 from that tick on, at every moment until the host clears the latch, if status was not latched when the line ran dry
+abbrev pub UnderrunSeen : Type 0
+UnderrunSeen = (w : Which) (c : Chip) (ys : List Event) → RunsDry w c → statusLatched w c ≡ false → Free w (step c (Transmit (number w)) .chip) ys
     → let d = after c (Transmit (number w) ∷ ys) in chan w d .pointer ≡ 0 → d6 w d ≡ true
+
+-- "One morning the planner fed the software chip late. The line ran dry .., the frame closed with a good check, and the underrun bit on which the
+-- planner aborts never came up": of the bytes meant only the first went out, and a host whose status was not latched reads D6 as 0 behind the
+-- frame. There is no such story
+pub record Incident (w : Which) (c : Chip) (meant : List ℕ) (xs ys : List Event) : Type 0 where
+  pub p : ℕ
+  pub v : ℕ
+  pub vs : List ℕ
+  pub start : Start w c p
+  pub fed : InTime w [] c (p - 1) (v ∷ vs) xs
+  pub fewer : length (v ∷ vs) < length meant
+  pub dry : RunsDry w (after c xs)
+  pub unlatched : statusLatched w (after c xs) ≡ false
+  pub late : Free w (step (after c xs) (Transmit (number w)) .chip) ys
+  pub closed : flagHead p ++ lineOf w c (xs ++ (Transmit (number w) ∷ ys)) ≡ frame (v ∷ vs)
+  pub looks : chan w (after c (xs ++ (Transmit (number w) ∷ ys))) .pointer ≡ 0
+  pub unseen : d6 w (after c (xs ++ (Transmit (number w) ∷ ys))) ≡ false
+
+abbrev pub NoIncident : Type 0
+NoIncident = (w : Which) (c : Chip) (meant : List ℕ) (xs ys : List Event) → Incident w c meant xs ys → ⊥
 
 -- a host whose status was latched reads D6 as 1 behind its next Reset External/Status
 abbrev pub resetStatus : ℕ

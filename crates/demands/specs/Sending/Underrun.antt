@@ -23,9 +23,9 @@ use Rattle.chip.specs.Chip.{transmitCall}
 use Rattle.chip.specs.Event.{Event, ControlWrite, DataWrite, Transmit, step}
 use Rattle.come.specs.Come.{Good}
 use Rattle.come.specs.Laws.{void, in-sdlc}
-use Rattle.demands.specs.Story.{Which, A, B, number, chan, after}
+use Rattle.demands.specs.Story.{Which, A, B, number, chan, after, after-join}
 use Rattle.demands.specs.Sending.Side.{Heeded, good, good-of, good-heeded, SenderSide, sendingIn, sideOf, latchOf}
-use Rattle.demands.specs.Sending.Statement.{InTime, over, still, writes, next-frame, ticking, RunsDry, d6, statusLatched, UnderrunShown, Free, FedLate, NoIncident, resetStatus, ResetShows, Watched, opens, NotClosed, NeverUnseen}
+use Rattle.demands.specs.Sending.Statement.{InTime, over, still, writes, next-frame, ticking, RunsDry, d6, statusLatched, UnderrunShown, Free, FedLate, UnderrunSeen, Incident, NoIncident, resetStatus, ResetShows, Watched, opens, NotClosed, NeverUnseen}
 use Rattle.demands.specs.Sending.Statement as stated
 use Rattle.demands.specs.Sending.Frame.{tick-side, write-side, demand3}
 use Rattle.demands.specs.Sending.Shown.{d6-read, Shows, shows-read, unlatched-shows, tick-shown, event-shown, reset-seen}
@@ -168,13 +168,19 @@ free-seen w (stated.writes {c = c} {v = v} f) e l h =
 free-seen w (stated.ticking {c = c} f) e l h =
     let m = tick-latch w c e l in free-seen w f (tick-heeds w c e) m (tick-shown w c h m)
 
-pub no-incident : NoIncident
+pub underrun-seen : UnderrunSeen
 unfolding after
-no-incident w c ys d n f p =
+underrun-seen w c ys d n f p =
     let l = dry-latch w c d in
     let e = step c (Transmit (number w)) .chip in
     let k = free-seen w f (dry-heeds w c d) l (tick-shown w c (unlatched-shows (chan w c .status) n) l) in
     shows-read w (after e ys) p (k .0) (k .1)
+
+pub no-incident : NoIncident
+no-incident w c meant xs ys i =
+    let j = after-join c xs (Transmit (number w) ∷ ys) in
+    let seen = underrun-seen w (after c xs) ys (i .dry) (i .unlatched) (i .late) (ap (λ (d : Chip). chan w d .pointer) (sym j) ∙ i .looks) in
+    void (sym (i .unseen) ∙ ap (d6 w) j ∙ seen)
 
 -- status that was latched shows the latch with the next Reset External/Status
 pub reset-shows : ResetShows

@@ -1,0 +1,106 @@
+-- A closing flag opens the next frame: the check preset and the latch cleared within it, demand 3 starts again. Assumes nothing.
+use mathlib.Core.Path.{_≡_, refl, sym, ap, _∙_}
+use mathlib.Core.Bool.{Bool, true, false}
+use mathlib.Core.List.{List, [], _∷_, _++_}
+use Prim.Native.Nat.{ℕ, zero, suc, _+_, _-_}
+use native.Mathlib.Omega.{arith}
+use lib.Dec.{eqb}
+use lib.ListN.{length, length-append}
+use Rattle.line.specs.Frame.{frame}
+use Rattle.line.specs.Laws.Frame.{ticks-are}
+use Rattle.sender.specs.declared.LineUnit.{LineUnit}
+use Rattle.sender.specs.declared.LineUnit.the-variants.{Flag}
+use Rattle.sender.specs.declared.Sender.{Sender}
+use Rattle.sender.specs.declared.Sending.{Sending}
+use Rattle.sender.specs.Sender.{checkPreset, latchCleared}
+use Rattle.sender.specs.Sound.{SoundSender}
+use Rattle.channel.specs.declared.Side.{Side}
+use Rattle.channel.specs.declared.Side.the-variants as channels
+use Rattle.channel.specs.declared.Channel.{Channel}
+use Rattle.channel.specs.Channel.{settled}
+use Rattle.channel.specs.Control.{commanded, preset, commandStep, presetStep, writeWr0, controlWritten}
+use Rattle.chip.specs.declared.Chip.{Chip}
+use Rattle.chip.specs.Chip.{controlWriteA, controlWrite}
+use Rattle.chip.specs.Event.{Event, ControlWrite, step}
+use Rattle.come.specs.Come.{Good, toCome}
+use Rattle.come.specs.Stage.{Stage, opening, inByte, inCheck, closing}
+use Rattle.come.specs.Start.{flagHead, unfinished-some}
+use Rattle.demands.specs.Story.{Which, A, B, number, chan, after}
+use Rattle.demands.specs.Sending.Side.{SenderSide, good-of, sendingIn, sideOf, lineOf, ticks}
+use Rattle.demands.specs.Sending.Statement.{Start, InTime, Closing, anew, StartsAnew, FrameEnds}
+use Rattle.demands.specs.Sending.Frame.{frame-kept, sent-length}
+
+-- what the two writes leave
+
+record Left (c d : Channel) (f : Sender → Sender) : Type 0 where
+  pub sender : d .sender ≡ f (c .sender)
+  pub settings : sendingIn d ≡ sendingIn c
+  pub pointer : d .pointer ≡ 0
+
+at-zero : (c : Channel) → c .pointer ≡ 0 → eqb (c .pointer) 0 ≡ true
+at-zero c p = ap (λ (n : ℕ). eqb n 0) p
+
+preset-left : (c : Channel) (s : Side) → c .pointer ≡ 0 → Left c (controlWritten c s 0b10000000 .channel) checkPreset
+unfolding controlWritten writeWr0 commandStep presetStep commanded preset settled
+preset-left c s p = rw (at-zero c p) (record { sender = refl; settings = refl; pointer = refl })
+
+clear-left : (c : Channel) (s : Side) → c .pointer ≡ 0 → Left c (controlWritten c s 0b11000000 .channel) latchCleared
+unfolding controlWritten writeWr0 commandStep presetStep commanded preset settled
+clear-left c s p = rw (at-zero c p) (record { sender = refl; settings = refl; pointer = refl })
+
+write-preset : (w : Which) (c : Chip) → chan w c .pointer ≡ 0 → Left (chan w c) (chan w (step c (ControlWrite (number w) 0b10000000) .chip)) checkPreset
+unfolding controlWrite controlWriteA
+write-preset A c p = rw (at-zero (c .a) p) (preset-left (c .a) channels.A p)
+write-preset B c p = preset-left (c .b) channels.B p
+
+write-clear : (w : Which) (c : Chip) → chan w c .pointer ≡ 0 → Left (chan w c) (chan w (step c (ControlWrite (number w) 0b11000000) .chip)) latchCleared
+unfolding controlWrite controlWriteA
+write-clear A c p = rw (at-zero (c .a) p) (clear-left (c .a) channels.A p)
+write-clear B c p = clear-left (c .b) channels.B p
+
+pub starts-anew : StartsAnew
+unfolding after
+starts-anew w c p h =
+    let d = step c (ControlWrite (number w) 0b10000000) .chip in
+    let x = write-preset w c (h .to-wr0) in
+    let y = write-clear w d (x .pointer) in
+    let e = chan w (step d (ControlWrite (number w) 0b11000000) .chip) in
+    let s : e .sender ≡ latchCleared (checkPreset (chan w c .sender)) = y .sender ∙ ap latchCleared (x .sender) in
+    let g : sendingIn e ≡ sendingIn (chan w c) = y .settings ∙ x .settings in
+    record {
+      some = h .some;
+      inside = h .inside;
+      flag = ap (λ (t : Sender). t .unit) s ∙ h .flag;
+      empty = ap (λ (t : Sender). t .core .full) s ∙ h .empty;
+      preset = ap (λ (t : Sender). t .core .check) s;
+      cleared = ap (λ (t : Sender). t .core .latch) s;
+      settings = rw g (h .settings);
+      history = rw s (h .history);
+    }
+
+-- nothing is to come: the closing flag's last bit is sent
+flag-ended : {s : Sender} {n : ℕ} → Stage false s n [] → length (toCome s []) ≡ 0 → (s .unit ≡ Flag 0) × SoundSender s
+flag-ended (opening k b f c n _ m p) z = absurd (omega (arith, unfinished-some (opening {a = false} k b f c n [] m p) refl))
+flag-ended (inByte k v r o b f c n _ m) z = absurd (omega (arith, unfinished-some (inByte {a = false} k v r o b f c n [] m) refl))
+flag-ended (inCheck k v r o b f c n) z = absurd (omega (arith, unfinished-some (inCheck {a = false} k v r o b f c n) refl))
+flag-ended (closing zero b f c n) z = (refl, (refl, refl, omega arith))
+flag-ended (closing (suc k) b f c n) z = absurd (omega arith)
+
+pub frame-ends : FrameEnds
+frame-ends w c p v vs st s i n f q =
+    let m = ticks-are (v ∷ vs) in
+    let k = frame-kept w c p v vs [] st s i (omega arith) in
+    let t = toCome (k .0 .last) [] in
+    let z : length t ≡ 0 =
+    omega (arith, ap length (k .1), length-append (flagHead p) (lineOf w c st ++ t), length-append (lineOf w c st) t, length-append (flagHead p) (lineOf w c st), sent-length w c p st (s .inside)) in
+    let e = flag-ended (k .0 .stage) z in
+    let there : chan w (after c st) .sender ≡ k .0 .last = ap (λ (x : SenderSide). x .sender) (k .0 .there) in
+    record {
+      some = omega arith;
+      inside = omega arith;
+      flag = ap (λ (x : Sender). x .unit) there ∙ e .0;
+      empty = f;
+      settings = good-of (sendingIn (chan w (after c st))) (ap (λ (x : SenderSide). x .heeds) (k .0 .there));
+      history = rw there (e .1);
+      to-wr0 = q;
+    }
