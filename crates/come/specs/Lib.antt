@@ -1,0 +1,4 @@
+pub mod Come
+pub mod Stage
+pub mod Laws
+pub mod Start

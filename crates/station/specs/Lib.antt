@@ -1,0 +1,4 @@
+pub mod Report
+pub mod Drive
+pub mod Laws
+pub mod Example
