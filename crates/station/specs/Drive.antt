@@ -28,29 +28,29 @@ use Rattle.station.specs.declared.Sent.{Sent}
 abbrev pub channelA : ℕ
 channelA = 0
 
-abbrev pub control : Chip → ℕ → Chip
+unfoldable pub control : Chip → ℕ → Chip
 control c v = controlWrite c channelA v .chip
 
-abbrev pub looked : Chip → Chip
+unfoldable pub looked : Chip → Chip
 looked c = controlReadCall c channelA .chip
 
 -- RR0 "D2 transmit buffer empty and no check being sent"
-abbrev pub bufferEmpty : Chip → Bool
+unfoldable pub bufferEmpty : Chip → Bool
 bufferEmpty c = odd (answerValue (controlReadCall c channelA .answer) / 4)
 
-abbrev pub wrote : Chip → ℕ → Chip
+unfoldable pub wrote : Chip → ℕ → Chip
 wrote c v = dataWriteCall c channelA v .chip
 
-abbrev pub ticked : Chip → Chip
+unfoldable pub ticked : Chip → Chip
 ticked c = transmitCall c channelA .chip
 
-abbrev pub lineBit : Chip → Bool
+unfoldable pub lineBit : Chip → Bool
 lineBit c = odd (answerValue (transmitCall c channelA .answer))
 
 -- Before a frame
 
 -- the sender can send a frame: SDLC, on, check included, no break
-abbrev pub canSend : Sending → Bool
+unfoldable pub canSend : Sending → Bool
 canSend g = (inSdlc (g .mode) && g .on) && (g .included && not (g .broken))
 
 -- nothing of a frame is under way, and no run of ones is counted
@@ -62,7 +62,7 @@ betweenFrames (Check n v) = false
 betweenFrames (Abort n) = true
 betweenFrames (Character n v) = false
 
-abbrev pub standsStill : Sender → Bool
+unfoldable pub standsStill : Sender → Bool
 standsStill s = betweenFrames (s .unit) && (eqb (s .core .run) 0 && not (s .core .owed))
 
 -- Channel Reset; WR4: SDLC; WR5: eight bits, on, check included
@@ -71,7 +71,7 @@ setUp c = control (control (control (control (control c 0x18) 4) 0x20) 5) 0x69
 
 -- A look at RR0 leaves the pointer at WR0. A channel that can send stays as it is set, and a frame that is under way in it is aborted; any
 -- other is set up
-abbrev pub settledFor : Chip → Sending → Sender → Chip
+unfoldable pub settledFor : Chip → Sending → Sender → Chip
 settledFor c g s =
     if canSend g && standsStill s then c
     else (if canSend g && not (aborting (s .unit)) then control c 0x08

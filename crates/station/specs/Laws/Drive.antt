@@ -47,11 +47,11 @@ pub record Stands (c : Chip) (s : Sender) : Type 0 where
 
 module _ {c : Chip} {s : Sender} (h : Stands c s) where
   pub ticked-stands : Stands (ticked c) (tick (sendingA c) s .sender)
-  unfolding transmitCall transmitTick settled
+  unfolding ticked transmitCall transmitTick settled
   ticked-stands = record { pointer = h .pointer; good = h .good; sends = ap (λ (x : Sender). tick (sendingA c) x .sender) (h .sends) }
 
   pub wrote-stands : (v : ℕ) → Stands (wrote c v) (written s v)
-  unfolding dataWriteCall
+  unfolding wrote dataWriteCall
   wrote-stands v = record { pointer = h .pointer; good = h .good; sends = ap (λ (x : Sender). written x v) (h .sends) }
 
 -- a choice whose test is known
@@ -71,7 +71,7 @@ unfolding controlWritten
 wr0-a a v p = if-true _ _ (ap (λ (n : ℕ). eqb n 0) p)
 
 wr0 : (c : Chip) (v : ℕ) → c .a .pointer ≡ 0 → eqb (commandIn v) 7 ≡ false → control c v ≡ chip (writeWr0 (c .a) v) (c .b)
-unfolding controlWrite controlWriteA
+unfolding control controlWrite controlWriteA
 wr0 c v p e =
     let no : endsService (c .a) v ≡ false = ap (λ (b : Bool). eqb (c .a .pointer) 0 && b) e ∙ and-false (eqb (c .a .pointer) 0) in
     ap (λ (o : Outcome). o .chip) (if-false (inA (reti c) (controlWritten (reti c .a) A v)) (inA c (controlWritten (c .a) A v)) no)
@@ -98,7 +98,7 @@ aborted-stands {c} {s} h =
 
 -- a channel that is set up
 set-up-reset : (l : Lines) (b : Channel) → Stands (control (control (control (control (chip (resetWith l) b) 4) 0x20) 5) 0x69) (sender Mark (core 0 false 0 false true ones))
-unfolding controlWrite controlWriteA controlWritten writeWr0 commandStep presetStep commanded preset settled setRegister setWr4 notBuilt modeOf sendingOf
+unfolding control controlWrite controlWriteA controlWritten writeWr0 commandStep presetStep commanded preset settled setRegister setWr4 notBuilt modeOf sendingOf
 set-up-reset l b = record { pointer = refl; good = record { sdlc-mode = refl; on = refl; included = refl; no-break = refl }; sends = refl }
 
 pub set-up-stands : (c : Chip) → c .a .pointer ≡ 0 → Stands (setUp c) (sender Mark (core 0 false 0 false true ones))
@@ -111,7 +111,7 @@ pub stands-as : {c : Chip} {s t : Sender} → Stands c s → s ≡ t → Stands 
 stands-as h e = record { pointer = h .pointer; good = h .good; sends = h .sends ∙ e }
 
 pub looked-stands : {c : Chip} {s : Sender} → Stands c s → Stands (looked c) s
-unfolding controlReadCall
+unfolding looked controlReadCall
 looked-stands h = record { pointer = refl; good = h .good; sends = h .sends }
 
 -- a sender between frames that counts no ones
@@ -138,6 +138,7 @@ sdlc-alone Asynchronous e = void e
 sdlc-alone Sdlc e = refl
 
 can-send : (g : Sending) → canSend g ≡ true → Good g
+unfolding canSend
 can-send g e =
     let l = and-l (inSdlc (g .mode) && g .on) (g .included && not (g .broken)) e in
     let r = and-r (inSdlc (g .mode) && g .on) (g .included && not (g .broken)) e in
@@ -149,6 +150,7 @@ can-send g e =
     }
 
 stands-still : (s : Sender) → standsStill s ≡ true → Waits s
+unfolding standsStill
 stands-still s e =
     let r = and-r (betweenFrames (s .unit)) (eqb (s .core .run) 0 && not (s .core .owed)) e in
     record {
@@ -169,6 +171,7 @@ cut-short : (g : Sending) (s : Sender) → Good g → aborting (s .unit) ≡ fal
 cut-short g s h e = rw (h .sdlc-mode, h .on, e)
 
 settled-for : (c : Chip) → c .a .pointer ≡ 0 → Prepared (settledFor c (sendingA c) (c .a .sender))
+unfolding settledFor
 settled-for c p =
     let g = sendingA c in
     let s = c .a .sender in
@@ -183,5 +186,5 @@ settled-for c p =
     (λ f. prepared-with (set-up-stands c p) (record { between = refl; run = refl; owed = refl })))
 
 pub prepared-well : (c : Chip) → Prepared (prepared c)
-unfolding prepared controlReadCall
+unfolding prepared looked controlReadCall
 prepared-well c = settled-for (looked c) refl

@@ -48,7 +48,7 @@ bit-back true = refl
 bit-back false = refl
 
 pub line-bit : {c : Chip} {s : Sender} → Stands c s → lineBit c ≡ tick (sendingA c) s .bit
-unfolding transmitCall transmitTick
+unfolding lineBit transmitCall transmitTick
 line-bit {c} h = bit-back (tick (sendingA c) (c .a .sender) .bit) ∙ ap (λ (x : Sender). tick (sendingA c) x .bit) (h .sends)
 
 -- a tick that is known: its bit, and the chip after it
@@ -180,12 +180,11 @@ reads-rr0 : (a : Channel) (pending : Bool) (vector : ℕ) → a .pointer ≡ 0 �
 unfolding readRegister
 reads-rr0 a pending vector p = if-true _ _ (ap (λ (n : ℕ). eqb n 0) p)
 
-pub d2 : {c : Chip} {s : Sender} → Stands c s → bufferEmpty c ≡ bufferReady s
-unfolding controlReadCall
-d2 {c} h =
-    ap (λ (n : ℕ). odd (n / 4)) (reads-rr0 (c .a) (anyPending c) 0 (h .pointer))
+pub d2 : (c : Chip) → c .a .pointer ≡ 0 → bufferEmpty c ≡ bufferReady (c .a .sender)
+unfolding bufferEmpty controlReadCall
+d2 c p =
+    ap (λ (n : ℕ). odd (n / 4)) (reads-rr0 (c .a) (anyPending c) 0 p)
     ∙ rr0-third (c .a) (anyPending c)
-    ∙ ap (λ (x : Sender). bufferReady x) (h .sends)
 
 -- Before a tick
 
@@ -212,25 +211,26 @@ pub record Feeds (f : Fed) (n : ℕ) (bits : List Bool) : Type 0 where
   pub come : toCome now (f .rest) ≡ bits
   pub intime : inTime (now .core .full) n (f .rest) ≡ true
 
-pub fed-waits : {c : Chip} {s : Sender} (v : ℕ) (rest : List ℕ) → Stands c s → s .core .full ≡ true → fed c (v ∷ rest) ≡ fedTo (looked c) (v ∷ rest)
+pub fed-waits : (c : Chip) (v : ℕ) (rest : List ℕ) → c .a .pointer ≡ 0 → bufferReady (c .a .sender) ≡ false → fed c (v ∷ rest) ≡ fedTo (looked c) (v ∷ rest)
 unfolding fed
-fed-waits {s = s} v rest h full = if-false _ _ (d2 h ∙ not-no (s .core .full) (not (checking (s .unit))) full)
+fed-waits c v rest p full = if-false _ _ (d2 c p ∙ full)
 
-pub fed-writes : {c : Chip} {s : Sender} (v : ℕ) (rest : List ℕ) → Stands c s → bufferReady s ≡ true → fed c (v ∷ rest) ≡ fedTo (wrote (looked c) v) rest
+pub fed-writes : (c : Chip) (v : ℕ) (rest : List ℕ) → c .a .pointer ≡ 0 → bufferReady (c .a .sender) ≡ true → fed c (v ∷ rest) ≡ fedTo (wrote (looked c) v) rest
 unfolding fed
-fed-writes v rest h ready = if-true _ _ (d2 h ∙ ready)
+fed-writes c v rest p ready = if-true _ _ (d2 c p ∙ ready)
 
 pub feeds : {c : Chip} {s : Sender} {n : ℕ} (rest : List ℕ) → Stands c s → Stage false s n rest → Feeds (fed c rest) n (toCome s rest)
 unfolding fed
 feeds {s = s} [] h g = record { now = s; stands = h; stage = g; come = refl; intime = refl }
 feeds {c} {s} {n} (v ∷ rest) h g =
+    let ready : bufferReady (c .a .sender) ≡ bufferReady s = ap (λ (x : Sender). bufferReady x) (h .sends) in
     bool-or (s .core .full)
-    (λ full. subst (λ (f : Fed). Feeds f n (toCome s (v ∷ rest))) (sym (fed-waits v rest h full))
+    (λ full. subst (λ (f : Fed). Feeds f n (toCome s (v ∷ rest))) (sym (fed-waits c v rest (h .pointer) (ready ∙ not-no (s .core .full) (not (checking (s .unit))) full)))
     (record { now = s; stands = looked-stands h; stage = g; come = refl; intime = ap (λ (b : Bool). b || ltb (n + 1) 8) full }))
     (λ empty.
     let m = moves g empty in
-    let ready = ap (λ (x : Bool). not (s .core .full) && not x) (none-checked g) ∙ not-yes (s .core .full) empty in
-    subst (λ (f : Fed). Feeds f n (toCome s (v ∷ rest))) (sym (fed-writes v rest h ready))
+    let yes = ready ∙ ap (λ (x : Bool). not (s .core .full) && not x) (none-checked g) ∙ not-yes (s .core .full) empty in
+    subst (λ (f : Fed). Feeds f n (toCome s (v ∷ rest))) (sym (fed-writes c v rest (h .pointer) yes))
     (record { now = written s v; stands = wrote-stands (looked-stands h) v; stage = m .1; come = sym (m .0); intime = in-time-full n rest }))
 
 -- The frame
