@@ -1,18 +1,27 @@
 -- 01, Note list and line: what sending a list tells, note by note and in all. Assumes nothing.
 use mathlib.Core.List.{List, [], _∷_, _++_, foldl}
-use Prim.Native.Nat.{ℕ, _+_, _-_}
-use lib.Dec.{eqb}
+use Prim.Native.Nat.{ℕ, _+_, _-_, _/_}
+use lib.Dec.{eqb, leb}
 use lib.ListN.{length}
+use lib.Seq.{sets}
 use Rattle.common.specs.Choice.{if_then_else_}
 use Rattle.common.specs.declared.Refusal.{Refusal}
 use Rattle.line.specs.Frame.{flagBits, zerosOf, ticksOf}
 use Rattle.notes.specs.NoteList.{Reading, whole, refuses, readList}
+use Rattle.chip.specs.declared.Chip.{Chip}
+use Rattle.station.specs.declared.Listed.{Listed}
+use Rattle.station.specs.declared.Listed.the-variants as listed
+use Rattle.station.specs.declared.ListSent.{ListSent}
 use Rattle.station.specs.declared.Pages.{Pages}
 use Rattle.station.specs.declared.Pages.the-variants as pages
+use Rattle.station.specs.Drive.{sentBy}
 
 -- "Lines: number, bytes, zeros inserted, ticks with both flags"
 abbrev pub rowOf : ℕ → List ℕ → List ℕ
 rowOf number note = number ∷ (length note ∷ (zerosOf note ∷ (ticksOf note ∷ [])))
+
+abbrev pub rowLength : ℕ
+rowLength = 4
 
 -- the rows of these notes, one behind the other
 unfoldable pub rowsFrom : ℕ → List (List ℕ) → List ℕ
@@ -23,8 +32,11 @@ rowsFrom number (note ∷ notes) = rowOf number note ++ rowsFrom (number + 1) no
 abbrev pub sharedTicks : ℕ
 sharedTicks = length flagBits
 
+abbrev pub withTicks : ℕ → ℕ → ℕ
+withTicks total ticks = if eqb total 0 then ticks else total + (ticks - sharedTicks)
+
 abbrev pub withNote : ℕ → List ℕ → ℕ
-withNote ticks note = if eqb ticks 0 then ticksOf note else ticks + (ticksOf note - sharedTicks)
+withNote total note = withTicks total (ticksOf note)
 
 -- "ticks in all (0 for none)"
 abbrev pub totalTicks : List (List ℕ) → ℕ
@@ -41,6 +53,24 @@ reported (refuses k) = refusal k
 
 abbrev pub reportOf : List ℕ → Report
 reportOf list = reported (readList list)
+
+-- what a station answers to a list
+abbrev pub listedOf : Report → Listed
+listedOf (report rows notes ticks) = listed.All notes ticks
+listedOf (refusal k) = listed.Refused k
+
+abbrev pub listSent : Listed → Chip → ListSent
+listSent l c = record { listed = l; chip = c }
+
+-- each note in its turn; a refused list changes nothing
+abbrev pub chipAfter : Chip → Reading → Chip
+chipAfter c (whole notes) = foldl sentBy c notes
+chipAfter c (refuses k) = c
+
+-- the rows go into the lent part, all of them or, where it is too short, none
+abbrev pub rowsIn : List ℕ → Report → List ℕ
+rowsIn lent (report rows notes ticks) = if leb notes (length lent / rowLength) then sets lent 0 rows else lent
+rowsIn lent (refusal k) = lent
 
 -- the page timer's answer: the ticks in all
 abbrev pub pagesOf : Report → Pages
