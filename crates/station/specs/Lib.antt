@@ -1,0 +1,5 @@
+pub mod Drive
+pub mod Parts
+pub mod Report
+pub mod Laws
+pub mod Example
