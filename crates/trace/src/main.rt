@@ -1,8 +1,7 @@
 // Reads events from standard input, four bytes each, gives them to a chip, and prints for each a line of seven numbers: the refusal, the value
-// given, RR0 and RR1 of A, RR0 and RR1 of B, and RR2 of B after it. All that matters is in the crate chip.
-use chip::Acknowledged;
+// given, RR0 and RR1 of A, RR0 and RR1 of B, and RR2 of B after it. All that matters is in the crates chip and script.
 use chip::Chip;
-use chip::Outcome;
+use script::Done;
 ghost use mathlib.Core.Path.{_≡_};
 ghost use lib.ListN.{length};
 
@@ -14,57 +13,6 @@ const LAST_CODE: u8 = 9;
 
 // A line has at most this many bytes: seven numbers of three digits, six spaces and a newline.
 const LINE: usize = 28;
-
-// An event has been: its refusal's number, the value it gave, and the chip after it.
-struct Done {
-    number: u8,
-    value: u8,
-    chip: Chip,
-}
-
-fn plain(c: Chip) -> Done {
-    Done {
-        number: 0,
-        value: 0,
-        chip: c,
-    }
-}
-
-fn answered(o: Outcome) -> Done {
-    let w = o.answer;
-    let c = o.chip;
-    Done {
-        number: w.number(),
-        value: w.value(),
-        chip: c,
-    }
-}
-
-fn acknowledged(o: Acknowledged) -> Done {
-    let w = o.acked;
-    let c = o.chip;
-    Done {
-        number: w.number(),
-        value: w.value(),
-        chip: c,
-    }
-}
-
-// One event; codes above the last are not asked for.
-fn step(c: Chip, code: u8, x: u8, y: u8, z: u8) -> Done {
-    match code {
-        0 => plain(Chip::reset()),
-        1 => answered(c.control_write(x, y)),
-        2 => answered(c.control_read(x)),
-        3 => answered(c.data_write(x, y)),
-        4 => answered(c.data_read(x)),
-        5 => answered(c.transmit(x)),
-        6 => answered(c.receive(x, y)),
-        7 => answered(c.set_lines(x, y, z)),
-        8 => acknowledged(c.acknowledge()),
-        _ => plain(c.reti()),
-    }
-}
 
 // A byte of output, where there is room for it; gives the next place.
 fn put(out: &mut [u8], at: usize, v: u8) -> usize {
@@ -158,7 +106,7 @@ fn turn(g: Going, events: &[u8], i: usize, out: &mut [u8]) -> Going {
     if events.len() - EVENT < i {
         return g;
     }
-    let s = step(c, events[i], events[i + 1], events[i + 2], events[i + 3]);
+    let s = script::step(c, events[i], events[i + 1], events[i + 2], events[i + 3]);
     let p = put_line(out, at, s);
     let q = flush_full(out, p);
     let d = s.chip;

@@ -1,9 +1,12 @@
-// Known answers of the line and of the note list. Each is compared here with what it should be; one line says of each whether it is,
+// Known answers of the line, the note list and the chip. Each is compared here with what it should be; one line says of each whether it is,
 // and the last how many are. Where the values come from: 01, marked examples and published check ("01"); the 8273 frames of document 002,
 // figure 43 ("002"), and edge frames ("edge"), both with a check by an independent CRC-16/X-25 and zeros counted by hand from its bits;
-// both sides of each limit that 01 names ("list", "line").
+// both sides of each limit that 01 names ("list", "line"); the programs that the manuals print, in the file manuals.rt ("V3" to "V12").
+mod manuals;
+
 use line::Counted;
 use notes::Scanned;
+use script::Tally;
 ghost use mathlib.Core.Path.{_≡_};
 ghost use lib.ListN.{length};
 
@@ -11,33 +14,6 @@ ghost use lib.ListN.{length};
 const UNTOUCHED: u8 = 9;
 // Where in its buffer a vector's line goes.
 const PLACE: usize = 5;
-
-// How many vectors there were, and how many were right.
-struct Tally {
-    all: u64,
-    right: u64,
-}
-
-impl Tally {
-    // One vector more, with its line.
-    fn with(self, name: &[u8], good: bool) -> Tally {
-        let mut t = self;
-        if t.all < 1000 {
-            t.all = t.all + 1;
-        }
-        if good {
-            io::write_all(1, b"ok  ");
-            if t.right < 1000 {
-                t.right = t.right + 1;
-            }
-        } else {
-            io::write_all(1, b"BAD ");
-        }
-        io::write_all(1, name);
-        io::write_all(1, b"\n");
-        t
-    }
-}
 
 // Room for every line, untouched.
 fn page() -> [u8; 20000]
@@ -499,13 +475,14 @@ fn long_lists(start: Tally) -> Tally {
 }
 
 fn main() {
-    let t = published(Tally { all: 0, right: 0 });
+    let t = published(Tally::none());
     let t = marked(t);
     let t = of_the_8273(t);
     let t = edges(t);
     let t = line_limits(t);
     let t = list_limits(t);
     let t = long_lists(t);
+    let t = manuals::manuals(t);
     io::print_decimal(1, t.right);
     io::write_all(1, b" of ");
     io::print_decimal(1, t.all);
