@@ -77,7 +77,7 @@ module _ (g : Sending) (h : Good g) where
   pub in-sdlc : (s : Sender) → tick g s ≡ tickSdlc g s
   in-sdlc s = tick-sdlc g s (h .sdlc-mode) ∙ rw (h .no-break)
 
-  start-byte : (k : Core) → startByte g k
+  pub start-byte : (k : Core) → startByte g k
       ≡ ticked (odd (k .buffer)) true (sender (Byte 7 (k .buffer / 2)) (counted (emptied (core (k .run) (k .owed) (k .buffer) (k .full) (k .latch) (checkOver sdlc (k .check) (lowBits 8 (k .buffer))))) (odd (k .buffer))))
   start-byte k = rw (h .included)
 

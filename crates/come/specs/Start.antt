@@ -30,7 +30,7 @@ flagHead p = take p flagBits
 pub head-length : (p : ℕ) → p ≤ 8 → length (flagHead p) ≡ p
 head-length p l = omega (arith, length-take p flagBits)
 
-head-tail : (p : ℕ) → 1 ≤ p → p ≤ 8 → flagHead p ++ flagTail (8 - p) ≡ flagBits
+pub head-tail : (p : ℕ) → 1 ≤ p → p ≤ 8 → flagHead p ++ flagTail (8 - p) ≡ flagBits
 head-tail zero h l = absurd (omega arith)
 head-tail (suc zero) h l = refl
 head-tail (suc (suc zero)) h l = refl

@@ -6,6 +6,7 @@ pub mod Frame
 pub mod Chain
 pub mod Shown
 pub mod Underrun
+pub mod Unclosed
 pub mod Abort
 pub mod Timely
 pub mod Example

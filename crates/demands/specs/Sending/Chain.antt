@@ -1,17 +1,14 @@
 -- A closing flag opens the next frame: the check preset and the latch cleared within it, demand 3 starts again. Assumes nothing.
-use mathlib.Core.Path.{_≡_, refl, sym, ap, _∙_}
-use mathlib.Core.Bool.{Bool, true, false}
-use mathlib.Core.List.{List, [], _∷_, _++_}
-use Prim.Native.Nat.{ℕ, zero, suc, _+_, _-_}
+use mathlib.Core.Path.{_≡_, refl, ap, _∙_}
+use mathlib.Core.Bool.{true, false}
+use mathlib.Core.List.{[], _∷_, _++_}
+use Prim.Native.Nat.{ℕ, zero, suc}
 use native.Mathlib.Omega.{arith}
 use lib.Dec.{eqb}
 use lib.ListN.{length, length-append}
-use Rattle.line.specs.Frame.{frame}
 use Rattle.line.specs.Laws.Frame.{ticks-are}
-use Rattle.sender.specs.declared.LineUnit.{LineUnit}
 use Rattle.sender.specs.declared.LineUnit.the-variants.{Flag}
 use Rattle.sender.specs.declared.Sender.{Sender}
-use Rattle.sender.specs.declared.Sending.{Sending}
 use Rattle.sender.specs.Sender.{checkPreset, latchCleared}
 use Rattle.sender.specs.Sound.{SoundSender}
 use Rattle.channel.specs.declared.Side.{Side}
@@ -21,13 +18,13 @@ use Rattle.channel.specs.Channel.{settled}
 use Rattle.channel.specs.Control.{commanded, preset, commandStep, presetStep, writeWr0, controlWritten}
 use Rattle.chip.specs.declared.Chip.{Chip}
 use Rattle.chip.specs.Chip.{controlWriteA, controlWrite}
-use Rattle.chip.specs.Event.{Event, ControlWrite, step}
-use Rattle.come.specs.Come.{Good, toCome}
+use Rattle.chip.specs.Event.{ControlWrite, step}
+use Rattle.come.specs.Come.{toCome}
 use Rattle.come.specs.Stage.{Stage, opening, inByte, inCheck, closing}
 use Rattle.come.specs.Start.{flagHead, unfinished-some}
 use Rattle.demands.specs.Story.{Which, A, B, number, chan, after}
-use Rattle.demands.specs.Sending.Side.{SenderSide, good-of, sendingIn, sideOf, lineOf, ticks}
-use Rattle.demands.specs.Sending.Statement.{Start, InTime, Closing, anew, StartsAnew, FrameEnds}
+use Rattle.demands.specs.Sending.Side.{SenderSide, good-of, sendingIn, lineOf}
+use Rattle.demands.specs.Sending.Statement.{StartsAnew, FrameEnds}
 use Rattle.demands.specs.Sending.Frame.{frame-kept, sent-length}
 
 -- what the two writes leave

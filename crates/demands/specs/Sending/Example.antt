@@ -31,6 +31,7 @@ use Rattle.demands.specs.Receiving.Deaf.{endMarks}
 use Rattle.demands.specs.Sending.Side.{lineOf, ticks}
 use Rattle.demands.specs.Sending.Statement.{Start, RunsDry, d6, statusLatched, resetStatus, SendsAbort, Aborted, NotClosed}
 use Rattle.demands.specs.Sending.Underrun.{fed-late, underrun-seen, never-unseen}
+use Rattle.demands.specs.Sending.Unclosed.{frame-seen}
 use Rattle.demands.specs.Sending.Abort.{abort3}
 use Rattle.demands.specs.Sending.Timely.{timely, in-time, demand3-tested, freely, free-of, watching, watched-of}
 
@@ -106,6 +107,8 @@ pub record Examples : Type 0 where
   pub at-wr0 : (chan A choosing .pointer ≡ 0) × (chan A (after choosing (Transmit 0 ∷ late)) .pointer ≡ 0)
   pub late-free : freely A (step choosing (Transmit 0) .chip) late ≡ true
   pub dry-watched : watching A begin dry ≡ true
+  pub late-watched : watching A begin (dry ++ (Transmit 0 ∷ late)) ≡ true
+  pub late-wr0 : chan A (after begin (dry ++ (Transmit 0 ∷ late))) .pointer ≡ 0
   pub before-choice : d6 A choosing ≡ false
   pub at-choice : d6 A (step choosing (Transmit 0) .chip) ≡ true
   pub late-line : flagHead 3 ++ lineOf A begin (dry ++ (Transmit 0 ∷ late)) ≡ frame (0 ∷ [])
@@ -148,6 +151,8 @@ examples = record {
   at-wr0 = (refl, refl);
   late-free = refl;
   dry-watched = refl;
+  late-watched = refl;
+  late-wr0 = refl;
   before-choice = refl;
   at-choice = refl;
   late-line = refl;
@@ -185,3 +190,8 @@ late-seen =
 
 dry-open : NotClosed A choosing
 dry-open = never-unseen A begin 3 dry (examples .starts) (watched-of A begin dry (examples .dry-watched)) (examples .at-wr0 .0) (examples .before-choice)
+
+frame-shows : d6 A (after begin (dry ++ (Transmit 0 ∷ late))) ≡ true
+frame-shows =
+    frame-seen A begin 3 (dry ++ (Transmit 0 ∷ late)) (0 ∷ []) (examples .starts) (watched-of A begin (dry ++ (Transmit 0 ∷ late)) (examples .late-watched))
+    (examples .late-wr0) (examples .late-line)

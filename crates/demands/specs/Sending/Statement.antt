@@ -1,4 +1,4 @@
--- Demand 3, sending, in its own words, over the events of the chip and for either channel w. Proofs: Frame, Chain, Underrun, Abort.
+-- Demand 3, sending, in its own words, over the events of the chip and for either channel w. Proofs: Frame, Chain, Underrun, Unclosed, Abort.
 -- Assumes nothing.
 use mathlib.Core.Path.{_≡_}
 use mathlib.Core.Bool.{Bool, true, false}
@@ -191,6 +191,11 @@ NotClosed w c = (latchOf w c ≡ false) × (opens (chan w c .sender .unit) ≡ t
 abbrev pub NeverUnseen : Type 0
 NeverUnseen = (w : Which) (c : Chip) (p : ℕ) (st : List Event) → Start w c p → Watched w c st → chan w (after c st) .pointer ≡ 0
     → d6 w (after c st) ≡ false → NotClosed w (after c st)
+
+-- so whatever such a host has done, if the line from that flag on is a whole frame, of any bytes, it reads D6 as 1
+abbrev pub FrameSeen : Type 0
+FrameSeen = (w : Which) (c : Chip) (p : ℕ) (st : List Event) (note : List ℕ) → Start w c p → Watched w c st → chan w (after c st) .pointer ≡ 0
+    → flagHead p ++ lineOf w c st ≡ frame note → d6 w (after c st) ≡ true
 
 -- "An abort during that flag or later": Send Abort is a write to WR0 with command 1
 pub record SendsAbort (w : Which) (c : Chip) (v : ℕ) : Type 0 where

@@ -25,7 +25,7 @@ use Rattle.come.specs.Come.{Good}
 use Rattle.come.specs.Laws.{void, in-sdlc}
 use Rattle.demands.specs.Story.{Which, A, B, number, chan, after, after-join}
 use Rattle.demands.specs.Sending.Side.{Heeded, good, good-of, good-heeded, SenderSide, sendingIn, sideOf, latchOf}
-use Rattle.demands.specs.Sending.Statement.{InTime, over, still, writes, next-frame, ticking, RunsDry, d6, statusLatched, UnderrunShown, Free, FedLate, UnderrunSeen, Incident, NoIncident, resetStatus, ResetShows, Watched, opens, NotClosed, NeverUnseen}
+use Rattle.demands.specs.Sending.Statement.{InTime, over, still, writes, next-frame, ticking, RunsDry, d6, statusLatched, UnderrunShown, Free, FedLate, UnderrunSeen, NoIncident, resetStatus, ResetShows, Watched, opens, NotClosed, NeverUnseen}
 use Rattle.demands.specs.Sending.Statement as stated
 use Rattle.demands.specs.Sending.Frame.{tick-side, write-side, demand3}
 use Rattle.demands.specs.Sending.Shown.{d6-read, Shows, shows-read, unlatched-shows, tick-shown, event-shown, reset-seen}
@@ -108,20 +108,20 @@ unfolding tickSdlc
 tick-set g h s l = rw (in-sdlc g h s) (if-elim Set (s .core .owed) l (going-set g (s .core) l (s .unit)))
 
 -- what a channel heeds, and its latch, after a tick and after a write
-abbrev heedsOf : Which → Chip → Heeded
+abbrev pub heedsOf : Which → Chip → Heeded
 heedsOf w c = sideOf w c .heeds
 
-tick-heeds : (w : Which) (c : Chip) → heedsOf w c ≡ good → heedsOf w (step c (Transmit (number w)) .chip) ≡ good
+pub tick-heeds : (w : Which) (c : Chip) → heedsOf w c ≡ good → heedsOf w (step c (Transmit (number w)) .chip) ≡ good
 tick-heeds w c e = ap (λ (x : SenderSide). x .heeds) (tick-side w c) ∙ e
 
-write-heeds : (w : Which) (c : Chip) (v : ℕ) → heedsOf w c ≡ good → heedsOf w (step c (DataWrite (number w) v) .chip) ≡ good
+pub write-heeds : (w : Which) (c : Chip) (v : ℕ) → heedsOf w c ≡ good → heedsOf w (step c (DataWrite (number w) v) .chip) ≡ good
 write-heeds w c v e = ap (λ (x : SenderSide). x .heeds) (write-side w c v) ∙ e
 
-tick-latch : (w : Which) (c : Chip) → heedsOf w c ≡ good → latchOf w c ≡ true → latchOf w (step c (Transmit (number w)) .chip) ≡ true
+pub tick-latch : (w : Which) (c : Chip) → heedsOf w c ≡ good → latchOf w c ≡ true → latchOf w (step c (Transmit (number w)) .chip) ≡ true
 tick-latch w c e l =
     ap (λ (x : SenderSide). x .sender .core .latch) (tick-side w c) ∙ tick-set (sendingIn (chan w c)) (good-of (sendingIn (chan w c)) e) (chan w c .sender) l
 
-write-latch : (w : Which) (c : Chip) (v : ℕ) → latchOf w (step c (DataWrite (number w) v) .chip) ≡ latchOf w c
+pub write-latch : (w : Which) (c : Chip) (v : ℕ) → latchOf w (step c (DataWrite (number w) v) .chip) ≡ latchOf w c
 write-latch w c v = ap (λ (x : SenderSide). x .sender .core .latch) (write-side w c v)
 
 -- Fed late: with the latch set, whatever the host does is in time, and is another frame's
@@ -221,11 +221,11 @@ tick-went : (g : Sending) → Good g → (s : Sender) → s .core .latch ≡ fal
 unfolding tickSdlc
 tick-went g h s l o = rw (in-sdlc g h s) (if-elim WentOn (s .core .owed) (opened l o) (going-went g h (s .core) l (s .unit) o))
 
-data Seen (w : Which) (c : Chip) : Type 0 where
+pub data Seen (w : Which) (c : Chip) : Type 0 where
   unclosed : NotClosed w c → Seen w c
   shown : latchOf w c ≡ true → Shows (chan w c .status) → Seen w c
 
-watched-seen : (w : Which) {c : Chip} {st : List Event} → Watched w c st → heedsOf w c ≡ good → Seen w c → Seen w (after c st)
+pub watched-seen : (w : Which) {c : Chip} {st : List Event} → Watched w c st → heedsOf w c ≡ good → Seen w c → Seen w (after c st)
 unfolding after
 watched-seen w stated.ended e s = s
 watched-seen w (stated.still {c = c} {e = x} r k f) e (unclosed n) =
