@@ -1,3 +1,4 @@
 pub mod Step
+pub mod Words
 pub mod Script
 pub mod Tally

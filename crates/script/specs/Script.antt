@@ -1,14 +1,17 @@
--- What a script of calls says of a chip, letter by letter. Letters are numbers of ASCII. Assumes nothing.
+-- What a script of calls says of a chip, letter by letter. Assumes nothing.
 use mathlib.Core.Bool.{Bool, true, false, not, _&&_, _||_}
 use mathlib.Core.List.{List, [], _∷_}
 use Prim.Native.Nat.{ℕ, _+_, _*_, _/_, _%_}
 use lib.Dec.{eqb, ltb, leb}
 use Rattle.common.specs.Choice.{if_then_else_}
+use Rattle.common.specs.Refusal.{numberOf}
+use Rattle.common.specs.declared.Refusal.the-variants.{Setting, NothingWaits}
 use Rattle.chip.specs.declared.Chip.{Chip}
 use Rattle.chip.specs.Chip.{hardReset}
 use Rattle.script.specs.declared.Done.{Done}
 use Rattle.script.specs.declared.Player.{Player}
-use Rattle.script.specs.Step.{step}
+use Rattle.script.specs.Step.{controlWriteEvent, controlReadEvent, dataWriteEvent, dataReadEvent, transmitEvent, receiveEvent, linesEvent, acknowledgeEvent, retiEvent, step}
+use Rattle.script.specs.Words.{aChannel, bChannel, write, deny, status, put, get, tick, hear, lines, vector, none, reti, space, digit0, digit9, digitA, digitF}
 
 -- the player with other parts of its own
 abbrev pub wrong : Player → Player
@@ -34,7 +37,7 @@ start = record { chip = hardReset; channel = 0; word = 0; starts = true; half = 
 
 -- 0 to 9, A to F; 16 for no digit
 unfoldable pub digitOf : ℕ → ℕ
-digitOf v = if leb 48 v && leb v 57 then v % 16 else (if leb 65 v && leb v 70 then v % 16 + 9 else 16)
+digitOf v = if leb digit0 v && leb v digit9 then v % 16 else (if leb digitA v && leb v digitF then v % 16 + 9 else 16)
 
 -- an event, its refusal and its value compared with what they must be
 abbrev pub compared : Player → Done → ℕ → ℕ → Player
@@ -44,33 +47,33 @@ compared p d number value =
 unfoldable pub played : Player → ℕ → ℕ → ℕ → ℕ → ℕ → Player
 played p code y z number value = compared p (step (p .chip) code (p .channel) y z) number value
 
--- the call of each word: w(rite), d(eny), s(tatus), p(ut), g(et), t(ick), h(ear), l(ines), v(ector)
+-- the call of each word, with the refusal and the value that it must give; a word that is none of these is wrong
 unfoldable pub called : Player → ℕ → Player
 called p v =
-    if eqb (p .word) 119 then played p 1 v 0 0 0
-    else (if eqb (p .word) 100 then played p 1 v 0 3 0
-    else (if eqb (p .word) 115 then played p 2 0 0 0 v
-    else (if eqb (p .word) 112 then played p 3 v 0 0 0
-    else (if eqb (p .word) 103 then played p 4 0 0 0 v
-    else (if eqb (p .word) 116 then played p 5 0 0 0 v
-    else (if eqb (p .word) 104 then played p 6 v 0 0 0
-    else (if eqb (p .word) 108 then played p 7 (v / 16) (v % 16) 0 0
-    else (if eqb (p .word) 118 then played p 8 0 0 0 v
+    if eqb (p .word) write then played p controlWriteEvent v 0 0 0
+    else (if eqb (p .word) deny then played p controlWriteEvent v 0 (numberOf Setting) 0
+    else (if eqb (p .word) status then played p controlReadEvent 0 0 0 v
+    else (if eqb (p .word) put then played p dataWriteEvent v 0 0 0
+    else (if eqb (p .word) get then played p dataReadEvent 0 0 0 v
+    else (if eqb (p .word) tick then played p transmitEvent 0 0 0 v
+    else (if eqb (p .word) hear then played p receiveEvent v 0 0 0
+    else (if eqb (p .word) lines then played p linesEvent (v / 16) (v % 16) 0 0
+    else (if eqb (p .word) vector then played p acknowledgeEvent 0 0 0 v
     else wrong p))))))))
 
--- a, b, n(one) and r(eti) act at once
+-- the channel's names, and the words without a number, act at once
 unfoldable pub begun : Player → ℕ → Player
 begun p v =
-    if eqb v 97 then inChannel (begins p) 0
-    else (if eqb v 98 then inChannel (begins p) 1
-    else (if eqb v 110 then played (begins p) 8 0 0 4 0
-    else (if eqb v 114 then played (begins p) 9 0 0 0 0
+    if eqb v aChannel then inChannel (begins p) 0
+    else (if eqb v bChannel then inChannel (begins p) 1
+    else (if eqb v none then played (begins p) acknowledgeEvent 0 0 (numberOf NothingWaits) 0
+    else (if eqb v reti then played (begins p) retiEvent 0 0 0 0
     else withWord (begins p) v)))
 
 -- a bit is a number by itself
 unfoldable pub counted : Player → ℕ → Player
 counted p d =
-    if eqb (p .word) 116 || eqb (p .word) 104 then called p d
+    if eqb (p .word) tick || eqb (p .word) hear then called p d
     else (if p .half then called (allRead p) (p .high % 16 * 16 + d % 16)
     else halfRead p d)
 
@@ -80,7 +83,7 @@ spaced p =
 
 unfoldable pub letter : Player → ℕ → Player
 letter p v =
-    if eqb v 32 then spaced p
+    if eqb v space then spaced p
     else (if ltb (digitOf v) 16 then counted p (digitOf v)
     else (if p .starts then begun p v else p))
 

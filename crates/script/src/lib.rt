@@ -59,23 +59,49 @@ fn acknowledged(o: Acknowledged) -> Done
     }
 }
 
-// One event by its code, 0 to 9, with three arguments; any other code is taken as the last.
+// The codes of the events.
+const RESET: u8 = 0;
+
+const CONTROL_WRITE: u8 = 1;
+
+const CONTROL_READ: u8 = 2;
+
+const DATA_WRITE: u8 = 3;
+
+const DATA_READ: u8 = 4;
+
+const TRANSMIT: u8 = 5;
+
+const RECEIVE: u8 = 6;
+
+const SET_LINES: u8 = 7;
+
+const ACKNOWLEDGE: u8 = 8;
+
+const RETI: u8 = 9;
+
+// One event by its code, with three arguments; any other code is taken as the last.
 pub fn step(c: Chip, code: u8, x: u8, y: u8, z: u8) -> Done
     ensures { λ r. ⌜ r ≡ step c code x y z ⌝ }
 {
     match code {
-        0 => plain(Chip::reset()),
-        1 => answered(c.control_write(x, y)),
-        2 => answered(c.control_read(x)),
-        3 => answered(c.data_write(x, y)),
-        4 => answered(c.data_read(x)),
-        5 => answered(c.transmit(x)),
-        6 => answered(c.receive(x, y)),
-        7 => answered(c.set_lines(x, y, z)),
-        8 => acknowledged(c.acknowledge()),
+        RESET => plain(Chip::reset()),
+        CONTROL_WRITE => answered(c.control_write(x, y)),
+        CONTROL_READ => answered(c.control_read(x)),
+        DATA_WRITE => answered(c.data_write(x, y)),
+        DATA_READ => answered(c.data_read(x)),
+        TRANSMIT => answered(c.transmit(x)),
+        RECEIVE => answered(c.receive(x, y)),
+        SET_LINES => answered(c.set_lines(x, y, z)),
+        ACKNOWLEDGE => acknowledged(c.acknowledge()),
         _ => plain(c.reti()),
     }
 }
+
+// The numbers of the refusals that a script can ask for.
+const SETTING: u8 = 3;
+
+const NOTHING_WAITS: u8 = 4;
 
 // No digit.
 const NO_DIGIT: u8 = 16;
@@ -148,15 +174,15 @@ impl Player {
     {
         let w = self.word;
         match w {
-            b'w' => self.played(1, v, 0, 0, 0),
-            b'd' => self.played(1, v, 0, 3, 0),
-            b's' => self.played(2, 0, 0, 0, v),
-            b'p' => self.played(3, v, 0, 0, 0),
-            b'g' => self.played(4, 0, 0, 0, v),
-            b't' => self.played(5, 0, 0, 0, v),
-            b'h' => self.played(6, v, 0, 0, 0),
-            b'l' => self.played(7, v / 16, v % 16, 0, 0),
-            b'v' => self.played(8, 0, 0, 0, v),
+            b'w' => self.played(CONTROL_WRITE, v, 0, 0, 0),
+            b'd' => self.played(CONTROL_WRITE, v, 0, SETTING, 0),
+            b's' => self.played(CONTROL_READ, 0, 0, 0, v),
+            b'p' => self.played(DATA_WRITE, v, 0, 0, 0),
+            b'g' => self.played(DATA_READ, 0, 0, 0, v),
+            b't' => self.played(TRANSMIT, 0, 0, 0, v),
+            b'h' => self.played(RECEIVE, v, 0, 0, 0),
+            b'l' => self.played(SET_LINES, v / 16, v % 16, 0, 0),
+            b'v' => self.played(ACKNOWLEDGE, 0, 0, 0, v),
             _ => self.wrong(),
         }
     }
@@ -176,8 +202,8 @@ impl Player {
                 p.channel = 1;
                 p
             }
-            b'n' => p.played(8, 0, 0, 4, 0),
-            b'r' => p.played(9, 0, 0, 0, 0),
+            b'n' => p.played(ACKNOWLEDGE, 0, 0, NOTHING_WAITS, 0),
+            b'r' => p.played(RETI, 0, 0, 0, 0),
             _ => {
                 p.word = v;
                 p
