@@ -1,15 +1,14 @@
 // The receiver of one channel, SDLC and asynchronous, a bit at a time. It knows no register: it is handed its settings. Assumes nothing.
+mod sdlc;
+mod asynchronous;
+
 use common::Mode;
 use line::ONES;
-use line::SDLC;
-use line::check_step;
 use queue::Entry;
 ghost use mathlib.Core.Path.{_≡_};
 ghost use Prim.Native.Nat.{_≤_};
 ghost use Rattle.line.specs.Bits.{oneIf};
-ghost use Rattle.receiver.specs.State.{noChars, noCharacter, following, assembling, silent};
-ghost use Rattle.receiver.specs.Sdlc.{counted, shiftIn, wrong, accept, push, closing, past, one, zeroBit};
-ghost use Rattle.receiver.specs.Asynchronous.{size, begun, bitsWith, withBit, finished, stopped, released, asynchronous};
+ghost use Rattle.receiver.specs.State.{noChars, noCharacter, following, silent};
 ghost use Rattle.receiver.specs.Receiver.{reset, dropped, enterHunt, modeChanged, presetCheck, hunting, hear};
 
 // A channel's settings as a tick finds them. on: WR3 D0 and, with auto enables, DCD. length: five to eight, anything else is eight.
@@ -69,64 +68,14 @@ pub struct Heard {
     pub entry: Entry,
 }
 
-// An empty delay, and the least of the full ones.
+// An empty delay.
 const EMPTY: u8 = 1;
-
-const FULL: u8 = 128;
-// The place of a character's last bit.
-const LAST: u8 = 7;
-// What a good frame leaves in the check.
-const REMAINDER: u16 = 0x1D0F;
-// Ones in a row before a dropped zero, before a flag's last zero, and in an abort.
-const INSERTED: u8 = 5;
-
-const FLAG: u8 = 6;
-
-const ABORT: u8 = 7;
-// The address that every station takes for its own.
-const EVERYONE: u8 = 0xFF;
 
 fn bit(b: bool) -> u8
     ensures { λ r. ⌜ r ≡ oneIf b ⌝ }
     ensures { λ r. ⌜ r ≤ 1 ⌝ }
 {
     if b { 1 } else { 0 }
-}
-
-// Ones in a row; more than an abort's are counted as its seven.
-fn counted(ones: u8) -> u8
-    ensures { λ r. ⌜ r ≡ counted ones ⌝ }
-{
-    if ones < ABORT { ones + 1 } else { ABORT }
-}
-
-// A bit enters a character from above.
-fn shift_in(b: bool, part: u8) -> u8
-    ensures { λ r. ⌜ r ≡ shiftIn b part ⌝ }
-{
-    if b { part / 2 + 128 } else { part / 2 }
-}
-
-// How many data bits a character has.
-fn size(length: u8) -> u8
-    ensures { λ r. ⌜ r ≡ size length ⌝ }
-    ensures { λ r. ⌜ r ≤ 8 ⌝ }
-{
-    match length {
-        5 => 5,
-        6 => 6,
-        7 => 7,
-        _ => 8,
-    }
-}
-
-impl Receiving {
-    // The first byte v of a frame (none is held) is neither the address nor everyone's.
-    fn wrong(self, held: bool, v: u8) -> bool
-        ensures { λ r. ⌜ r ≡ wrong self held v ⌝ }
-    {
-        self.search & (!held & ((v != self.address) & (v != EVERYONE)))
-    }
 }
 
 impl Chars {
@@ -141,19 +90,6 @@ impl Chars {
             held: 0,
             check,
         }
-    }
-
-    // The character held ends the frame.
-    fn closing(self) -> Entry
-        ensures { λ r. ⌜ r ≡ closing self ⌝ }
-    {
-        Entry::received(
-            self.held,
-            false,
-            false,
-            true,
-            !((self.count == 0) & (self.check == REMAINDER)),
-        )
     }
 }
 
@@ -171,60 +107,6 @@ impl Assembly {
             parity: false,
             even: false,
         }
-    }
-
-    // A character starts, as set now.
-    fn begun(g: Receiving) -> Assembly
-        ensures { λ r. ⌜ r ≡ begun g ⌝ }
-    {
-        Assembly {
-            left: size(g.length) + bit(g.parity) + 1,
-            bits: 0xFF,
-            weight: 1,
-            odd: false,
-            blank: true,
-            parity: g.parity,
-            even: g.even,
-        }
-    }
-
-    // The byte, when a 0 takes its place.
-    fn bits_with(self, b: bool) -> u8
-        ensures { λ r. ⌜ r ≡ bitsWith self b ⌝ }
-    {
-        if b {
-            self.bits
-        } else {
-            self.bits ^ self.weight
-        }
-    }
-
-    // A data or parity bit.
-    fn with_bit(self, left: u8, b: bool) -> Assembly
-        ensures { λ r. ⌜ r ≡ withBit self left b ⌝ }
-    {
-        Assembly {
-            left,
-            bits: self.bits_with(b),
-            weight: self.weight % 128 * 2,
-            odd: self.odd != b,
-            blank: self.blank & !b,
-            parity: self.parity,
-            even: self.even,
-        }
-    }
-
-    // The character with its marks, at its stop bit.
-    fn finished(self, stop: bool) -> Entry
-        ensures { λ r. ⌜ r ≡ finished self stop ⌝ }
-    {
-        Entry::received(
-            self.bits,
-            self.parity & (self.odd == self.even),
-            !stop,
-            false,
-            false,
-        )
     }
 }
 
@@ -324,243 +206,6 @@ impl Receiver {
             some: false,
             entry: Entry::none(),
         }
-    }
-
-    // A flag has just ended.
-    fn past(self) -> Receiver
-        ensures { λ r. ⌜ r ≡ past self ⌝ }
-    {
-        let content = Content {
-            hunt: false,
-            skip: false,
-            ones: 0,
-            delay: EMPTY,
-            chars: Chars::none(ONES),
-        };
-        self.following(content, false)
-    }
-
-    // A bit b leaves the delay; with its eighth a character is held, and the one held before is queued.
-    fn accept(self, g: Receiving, ones: u8, broken: bool, delay: u8, b: bool) -> Heard
-        ensures { λ r. ⌜ r ≡ accept g self ones broken delay b ⌝ }
-    {
-        let was = self.content;
-        let c = was.chars;
-        let part = shift_in(b, c.part);
-        let check = check_step(SDLC, c.check, b);
-        if c.count < LAST {
-            let chars = Chars {
-                count: c.count + 1,
-                part,
-                have: c.have,
-                held: c.held,
-                check,
-            };
-            let content = Content {
-                hunt: false,
-                skip: false,
-                ones,
-                delay,
-                chars,
-            };
-            let s = self.following(content, broken);
-            return s.silent();
-        }
-        if g.wrong(c.have, part) {
-            let content = Content {
-                hunt: false,
-                skip: true,
-                ones,
-                delay: EMPTY,
-                chars: Chars::none(check),
-            };
-            let s = self.following(content, broken);
-            return s.silent();
-        }
-        let chars = Chars {
-            count: 0,
-            part: 0,
-            have: true,
-            held: part,
-            check,
-        };
-        let content = Content {
-            hunt: false,
-            skip: false,
-            ones,
-            delay,
-            chars,
-        };
-        Heard {
-            receiver: self.following(content, broken),
-            some: c.have,
-            entry: Entry::received(c.held, false, false, false, false),
-        }
-    }
-
-    // A bit of content enters the delay; a full one gives its oldest.
-    fn push(self, g: Receiving, ones: u8, broken: bool, b: bool) -> Heard
-        ensures { λ r. ⌜ r ≡ push g self ones broken b ⌝ }
-    {
-        let was = self.content;
-        let d = was.delay;
-        let chars = was.chars;
-        let v = bit(b);
-        if d < FULL {
-            let content = Content {
-                hunt: false,
-                skip: false,
-                ones,
-                delay: d * 2 + v,
-                chars,
-            };
-            let s = self.following(content, broken);
-            return s.silent();
-        }
-        self.accept(g, ones, broken, FULL + d % 64 * 2 + v, d / 64 % 2 == 1)
-    }
-
-    // A 1 on the line.
-    fn one(self, g: Receiving) -> Heard
-        ensures { λ r. ⌜ r ≡ one g self ⌝ }
-    {
-        let c = self.content;
-        let n = c.ones;
-        let chars = c.chars;
-        if c.hunt {
-            let content = Content {
-                hunt: true,
-                skip: c.skip,
-                ones: counted(n),
-                delay: c.delay,
-                chars,
-            };
-            let s = self.following(content, self.broken);
-            return s.silent();
-        }
-        if n < FLAG {
-            if c.skip {
-                let content = Content {
-                    hunt: false,
-                    skip: true,
-                    ones: n + 1,
-                    delay: c.delay,
-                    chars,
-                };
-                let s = self.following(content, self.broken);
-                return s.silent();
-            }
-            return self.push(g, n + 1, self.broken, true);
-        }
-        let content = Content {
-            hunt: false,
-            skip: true,
-            ones: ABORT,
-            delay: EMPTY,
-            chars: Chars::none(chars.check),
-        };
-        let s = self.following(content, true);
-        s.silent()
-    }
-
-    // A 0 on the line.
-    fn zero_bit(self, g: Receiving) -> Heard
-        ensures { λ r. ⌜ r ≡ zeroBit g self ⌝ }
-    {
-        let c = self.content;
-        let n = c.ones;
-        let k = c.chars;
-        let deaf = c.hunt | c.skip;
-        if n == FLAG {
-            return Heard {
-                receiver: self.past(),
-                some: !deaf & k.have,
-                entry: k.closing(),
-            };
-        }
-        if deaf {
-            let mut content = c;
-            content.ones = 0;
-            let s = self.following(content, false);
-            return s.silent();
-        }
-        if n == INSERTED {
-            let content = Content {
-                hunt: false,
-                skip: false,
-                ones: 0,
-                delay: c.delay,
-                chars: k,
-            };
-            let s = self.following(content, false);
-            return s.silent();
-        }
-        self.push(g, 0, false, false)
-    }
-
-    // An asynchronous character goes on.
-    fn assembling(self, character: Assembly) -> Receiver
-        ensures { λ r. ⌜ r ≡ assembling self character ⌝ }
-    {
-        let mut s = self;
-        s.character = character;
-        s
-    }
-
-    // The 1 that was waited for.
-    fn released(self) -> Receiver
-        ensures { λ r. ⌜ r ≡ released self ⌝ }
-    {
-        let mut s = self;
-        s.wait = false;
-        s.broken = false;
-        s
-    }
-
-    // The stop bit queues the character.
-    fn stopped(self, stop: bool) -> Heard
-        ensures { λ r. ⌜ r ≡ stopped self stop ⌝ }
-    {
-        let a = self.character;
-        let content = self.content;
-        let receiver = Receiver {
-            content,
-            character: Assembly::none(),
-            wait: !stop,
-            broken: self.broken | (a.blank & !stop),
-        };
-        Heard {
-            receiver,
-            some: true,
-            entry: a.finished(stop),
-        }
-    }
-
-    // A bit in asynchronous mode.
-    fn asynchronous(self, g: Receiving, b: bool) -> Heard
-        ensures { λ r. ⌜ r ≡ asynchronous g self b ⌝ }
-    {
-        let a = self.character;
-        let left = a.left;
-        if self.wait {
-            if b {
-                let s = self.released();
-                return s.silent();
-            }
-            return self.silent();
-        }
-        if left == 0 {
-            if b {
-                return self.silent();
-            }
-            let s = self.assembling(Assembly::begun(g));
-            return s.silent();
-        }
-        if left == 1 {
-            return self.stopped(b);
-        }
-        let s = self.assembling(a.with_bit(left - 1, b));
-        s.silent()
     }
 
     // A receive tick.

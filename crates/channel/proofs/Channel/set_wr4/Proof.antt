@@ -6,7 +6,7 @@ use Rattle.channel.proofs.Channel.set_wr4.Tie as tie
 use Rattle.channel.proofs.Channel.set_wr4.Reads as reads
 use Rattle.channel.proofs.Channel.set_wr4.Lts as lts
 use Rattle.channel.proofs.Channel.in_mode.Reads as in-mode-reads
-use Rattle.channel.proofs.same_mode.Reads as same-mode-reads
+use Rattle.channel.proofs.control.same_mode.Reads as same-mode-reads
 use Rattle.settings.proofs.mode_of.Reads as mode-of-reads
 
 -- src/lib.rt:400:13

@@ -7,7 +7,7 @@ use Rattle.channel.proofs.Channel.transmit_tick.Reads as reads
 use Rattle.channel.proofs.Channel.transmit_tick.Lts as lts
 use Rattle.channel.proofs.Channel.after_tick.Reads as after-tick-reads
 use Rattle.channel.proofs.Channel.settled.Reads as settled-reads
-use Rattle.channel.proofs.cell.Reads as cell-reads
+use Rattle.channel.proofs.events.cell.Reads as cell-reads
 use Rattle.sender.proofs.Sender.tick.Reads as tick-reads
 use Rattle.settings.proofs.Registers.sending.Reads as sending-reads
 

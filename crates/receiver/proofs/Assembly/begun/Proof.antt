@@ -5,7 +5,7 @@ use Rattle.receiver.proofs.Assembly.begun.Tie as tie
 use Rattle.receiver.proofs.Assembly.begun.Reads as reads
 use Rattle.receiver.proofs.Assembly.begun.Lts as lts
 use Rattle.receiver.proofs.bit.Reads as bit-reads
-use Rattle.receiver.proofs.size.Reads as size-reads
+use Rattle.receiver.proofs.asynchronous.size.Reads as size-reads
 
 -- src/lib.rt:171:19
 size-requires : tie.Need-size-requires

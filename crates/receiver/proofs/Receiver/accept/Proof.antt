@@ -11,7 +11,7 @@ use Rattle.receiver.proofs.Chars.none.Reads as none-reads
 use Rattle.receiver.proofs.Receiver.following.Reads as following-reads
 use Rattle.receiver.proofs.Receiver.silent.Reads as silent-reads
 use Rattle.receiver.proofs.Receiving.wrong.Reads as wrong-reads
-use Rattle.receiver.proofs.shift_in.Reads as shift-in-reads
+use Rattle.receiver.proofs.sdlc.shift_in.Reads as shift-in-reads
 
 -- src/lib.rt:329:13
 shift-in-requires : tie.Need-shift-in-requires

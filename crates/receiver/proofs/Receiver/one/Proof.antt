@@ -9,7 +9,7 @@ use Rattle.receiver.proofs.Chars.none.Reads as none-reads
 use Rattle.receiver.proofs.Receiver.following.Reads as following-reads
 use Rattle.receiver.proofs.Receiver.push.Reads as push-reads
 use Rattle.receiver.proofs.Receiver.silent.Reads as silent-reads
-use Rattle.receiver.proofs.counted.Reads as counted-reads
+use Rattle.receiver.proofs.sdlc.counted.Reads as counted-reads
 
 -- src/lib.rt:414:23
 counted-requires : tie.Need-counted-requires

@@ -4,8 +4,8 @@ use native.Mathlib.Omega.{arith}
 use Rattle.line.specs.Bits.{lowBits}
 use Rattle.sender.specs.Character.{oddOver}
 use Rattle.sender.proofs.Laws.{low-step, low-none}
-use Rattle.sender.proofs.parity_bit.Statement.{statement}
-use Rattle.sender.proofs.parity_bit.Tie as tie
+use Rattle.sender.proofs.character.parity_bit.Statement.{statement}
+use Rattle.sender.proofs.character.parity_bit.Tie as tie
 
 abbrev Inv-loop : tie.InvT-loop
 Inv-loop even n v odd₀ rest₀ left₀ odd rest left = oddOver odd (lowBits left rest) ≡ oddOver odd₀ (lowBits left₀ rest₀)

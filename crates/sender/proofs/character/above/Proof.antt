@@ -3,8 +3,8 @@ use mathlib.Core.Path.{_≡_}
 use native.Mathlib.Omega.{arith}
 use Rattle.sender.proofs.Branch.{tests}
 use borrow.Author.Needs.{needs}
-use Rattle.sender.proofs.above.Statement.{statement}
-use Rattle.sender.proofs.above.Tie as tie
+use Rattle.sender.proofs.character.above.Statement.{statement}
+use Rattle.sender.proofs.character.above.Tie as tie
 
 mul-result : tie.Need-mul-result
 mul-result c = search needs

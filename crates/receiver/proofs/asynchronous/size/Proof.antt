@@ -3,10 +3,10 @@ use native.Mathlib.Omega.{arith}
 use mathlib.Core.Path.{refl}
 use Rattle.receiver.specs.Asynchronous.{size}
 use borrow.Author.Needs.{needs}
-use Rattle.receiver.proofs.size.Statement.{statement}
-use Rattle.receiver.proofs.size.Tie as tie
-use Rattle.receiver.proofs.size.Reads as reads
-use Rattle.receiver.proofs.size.Lts as lts
+use Rattle.receiver.proofs.asynchronous.size.Statement.{statement}
+use Rattle.receiver.proofs.asynchronous.size.Tie as tie
+use Rattle.receiver.proofs.asynchronous.size.Reads as reads
+use Rattle.receiver.proofs.asynchronous.size.Lts as lts
 
 -- src/lib.rt:107:1
 returns : tie.Need-returns

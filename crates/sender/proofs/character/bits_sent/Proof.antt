@@ -1,8 +1,8 @@
 -- `sender::bits_sent` meets its contract: each return by the facts on its way. Assumes nothing.
 use Rattle.sender.proofs.Branch.{tests}
 use Rattle.sender.specs.Character.{bitsSent}
-use Rattle.sender.proofs.bits_sent.Statement.{statement}
-use Rattle.sender.proofs.bits_sent.Tie as tie
+use Rattle.sender.proofs.character.bits_sent.Statement.{statement}
+use Rattle.sender.proofs.character.bits_sent.Tie as tie
 
 returns : tie.Need-returns
 unfolding bitsSent

@@ -1,10 +1,10 @@
 use Rattle.receiver.proofs.Branch.{tests}
 use native.Mathlib.Omega.{arith}
 use borrow.Author.Needs.{needs}
-use Rattle.receiver.proofs.shift_in.Statement.{statement}
-use Rattle.receiver.proofs.shift_in.Tie as tie
-use Rattle.receiver.proofs.shift_in.Reads as reads
-use Rattle.receiver.proofs.shift_in.Lts as lts
+use Rattle.receiver.proofs.sdlc.shift_in.Statement.{statement}
+use Rattle.receiver.proofs.sdlc.shift_in.Tie as tie
+use Rattle.receiver.proofs.sdlc.shift_in.Reads as reads
+use Rattle.receiver.proofs.sdlc.shift_in.Lts as lts
 
 -- src/lib.rt:103:12
 add-result : tie.Need-add-result

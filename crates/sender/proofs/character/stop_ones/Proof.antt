@@ -4,8 +4,8 @@ use Rattle.line.specs.Laws.Bits.{fromLow}
 use Rattle.sender.specs.Character.{stopBits}
 use Rattle.line.specs.Bits.{textBits}
 use Rattle.line.specs.Bits.{cells}
-use Rattle.sender.proofs.stop_ones.Statement.{statement}
-use Rattle.sender.proofs.stop_ones.Tie as tie
+use Rattle.sender.proofs.character.stop_ones.Statement.{statement}
+use Rattle.sender.proofs.character.stop_ones.Tie as tie
 
 returns : tie.Need-returns
 unfolding fromLow stopBits textBits cells

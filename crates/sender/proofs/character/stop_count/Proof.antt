@@ -1,8 +1,8 @@
 -- `sender::stop_count` meets its contract: each return by the facts on its way. Assumes nothing.
 use Rattle.sender.proofs.Branch.{tests}
 use Rattle.sender.specs.Character.{stopBits}
-use Rattle.sender.proofs.stop_count.Statement.{statement}
-use Rattle.sender.proofs.stop_count.Tie as tie
+use Rattle.sender.proofs.character.stop_count.Statement.{statement}
+use Rattle.sender.proofs.character.stop_count.Tie as tie
 
 returns : tie.Need-returns
 unfolding stopBits

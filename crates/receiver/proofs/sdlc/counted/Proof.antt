@@ -1,9 +1,9 @@
 use Rattle.receiver.proofs.Branch.{tests}
 use borrow.Author.Needs.{needs}
-use Rattle.receiver.proofs.counted.Statement.{statement}
-use Rattle.receiver.proofs.counted.Tie as tie
-use Rattle.receiver.proofs.counted.Reads as reads
-use Rattle.receiver.proofs.counted.Lts as lts
+use Rattle.receiver.proofs.sdlc.counted.Statement.{statement}
+use Rattle.receiver.proofs.sdlc.counted.Tie as tie
+use Rattle.receiver.proofs.sdlc.counted.Reads as reads
+use Rattle.receiver.proofs.sdlc.counted.Lts as lts
 
 -- src/lib.rt:96:23
 add-result : tie.Need-add-result
