@@ -1,12 +1,12 @@
 // 01, Registers: the commands of WR0, what a write to a register starts, and what a read gives. Assumes nothing.
-use common::Mode;
-use common::Refusal;
-use common::in_sdlc;
-use common::placed;
 use crate::Answer;
 use crate::Answered;
 use crate::Channel;
 use crate::Side;
+use common::Mode;
+use common::Refusal;
+use common::in_sdlc;
+use common::placed;
 use settings::mode_of;
 use settings::not_built;
 ghost use mathlib.Core.Path.{_≡_};

@@ -1,6 +1,6 @@
 // The receiver of one channel, SDLC and asynchronous, a bit at a time. It knows no register: it is handed its settings. Assumes nothing.
-mod sdlc;
 mod asynchronous;
+mod sdlc;
 
 use common::Mode;
 use line::ONES;
