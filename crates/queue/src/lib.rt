@@ -68,7 +68,7 @@ impl Entry {
     }
 
     // Marked overrun, with its own marks kept.
-    pub fn overran(self) -> Entry
+    fn overran(self) -> Entry
         ensures { λ r. ⌜ r ≡ overran self ⌝ }
     {
         let mut e = self;

@@ -44,7 +44,7 @@ pub fn not_built(wr4: u8) -> bool
 }
 
 // The number of bits that a length's two bits name.
-pub fn length_of(field: u8) -> u8
+fn length_of(field: u8) -> u8
     ensures { λ r. ⌜ r ≡ lengthOf field ⌝ }
 {
     match field {
@@ -56,7 +56,7 @@ pub fn length_of(field: u8) -> u8
 }
 
 // The number of stop bits to send.
-pub fn stops_of(wr4: u8) -> u8
+fn stops_of(wr4: u8) -> u8
     ensures { λ r. ⌜ r ≡ stopsOf wr4 ⌝ }
 {
     if wr4 / 4 % 4 == 3 { 2 } else { 1 }
@@ -64,7 +64,7 @@ pub fn stops_of(wr4: u8) -> u8
 
 impl Registers {
     // On takes the line with it.
-    pub fn auto_enables(self) -> bool
+    fn auto_enables(self) -> bool
         ensures { λ r. ⌜ r ≡ autoEnables self ⌝ }
     {
         self.wr3 / 32 % 2 == 1
