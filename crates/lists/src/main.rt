@@ -2,6 +2,7 @@
 // what it should be; one line says of each whether it is, and the last how many are. The page timer must give the same total. The numbers
 // come from 01, marked examples 9 and 10, and from an independent CRC-16/X-25 with zeros counted from its bits.
 use chip::Chip;
+use script::Tally;
 use station::Listed;
 use station::Pages;
 ghost use mathlib.Core.Path.{_≡_};
@@ -9,33 +10,6 @@ ghost use lib.ListN.{length};
 
 // What rows hold where nobody has written.
 const UNTOUCHED: usize = 9;
-
-// How many lists there were, and how many were right.
-struct Tally {
-    all: u64,
-    right: u64,
-}
-
-impl Tally {
-    // One list more, with its line.
-    fn with(self, name: &[u8], good: bool) -> Tally {
-        let mut t = self;
-        if t.all < 1000 {
-            t.all = t.all + 1;
-        }
-        if good {
-            io::write_all(1, b"ok  ");
-            if t.right < 1000 {
-                t.right = t.right + 1;
-            }
-        } else {
-            io::write_all(1, b"BAD ");
-        }
-        io::write_all(1, name);
-        io::write_all(1, b"\n");
-        t
-    }
-}
 
 // Room for the rows of 128 notes, untouched.
 fn few_rows() -> [usize; 512]
@@ -337,7 +311,7 @@ fn trouble(start: Tally) -> Tally {
 }
 
 fn main() {
-    let t = marked(Tally { all: 0, right: 0 });
+    let t = marked(Tally::none());
     let t = limits(t);
     let t = long_lists(t);
     let t = many_notes(t);
