@@ -1,7 +1,7 @@
 -- `chip::served` meets its contract: each return by the facts on its way. Assumes nothing.
 use Rattle.chip.proofs.Branch.{tests}
-use Rattle.chip.proofs.served.Statement.{statement}
-use Rattle.chip.proofs.served.Tie as tie
+use Rattle.chip.proofs.interrupts.served.Statement.{statement}
+use Rattle.chip.proofs.interrupts.served.Tie as tie
 
 returns : tie.Need-returns
 returns c = simp (tests, c .match .keys1)

@@ -2,8 +2,8 @@
 use Rattle.chip.proofs.Branch.{tests}
 use Rattle.chip.specs.Interrupts.{serving}
 use borrow.Author.Needs.{needs}
-use Rattle.chip.proofs.serving.Statement.{statement}
-use Rattle.chip.proofs.serving.Tie as tie
+use Rattle.chip.proofs.interrupts.serving.Statement.{statement}
+use Rattle.chip.proofs.interrupts.serving.Tie as tie
 
 served-requires : tie.Need-served-requires
 served-requires c κs = search needs

@@ -1,8 +1,8 @@
 -- `chip::highest_of` meets its contract: each return by the facts on its way. Assumes nothing.
 use Rattle.chip.proofs.Branch.{tests}
 use Rattle.chip.specs.Interrupts.{highestOf}
-use Rattle.chip.proofs.highest_of.Statement.{statement}
-use Rattle.chip.proofs.highest_of.Tie as tie
+use Rattle.chip.proofs.interrupts.highest_of.Statement.{statement}
+use Rattle.chip.proofs.interrupts.highest_of.Tie as tie
 
 returns : tie.Need-returns
 unfolding highestOf
