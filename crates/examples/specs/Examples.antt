@@ -1,13 +1,16 @@
 -- 01, Marked examples: "Prove these together as a single table". Each row has the example's number, what the definitions give and what the paper
--- says, numbers in a list: bits of a line, values that calls gave, and for the examples of the list program the bytes of its report.
--- Assumes nothing.
+-- says, numbers in a list: the bits of a line (1 to 3, 5), the values that calls gave (4, 6 to 8), and of a list its report (9, 10): its rows,
+-- then notes and ticks in all, or the one number of its refusal. Assumes nothing.
 use mathlib.Core.List.{List, [], _∷_, _++_}
-use Prim.Native.Nat.{ℕ}
+use Prim.Native.Nat.{ℕ, _/_, _%_}
+use lib.ListN.{take, replicate}
+use Rattle.common.specs.Refusal.{numberOf}
 use Rattle.line.specs.Bits.{cells}
 use Rattle.line.specs.Frame.{frame}
 use Rattle.chip.specs.declared.Chip.{Chip}
 use Rattle.chip.specs.Chip.{hardReset}
 use Rattle.chip.specs.Event.{Event, ControlWrite, ControlRead, DataWrite, DataRead, Acknowledge, Reti}
+use Rattle.station.specs.Report.{Report, report, refusal, reportOf}
 use Rattle.examples.specs.Run.{after, given, ticks, heard, wired, digits}
 
 pub record Example : Type 0 where
@@ -78,6 +81,23 @@ special8 = after hears2 (sets 1 2 0xE0 ++ (sets 1 1 0b00000100 ++ (sets 0 1 0b00
 abbrev pub asks8 : List Event
 asks8 = Acknowledge ∷ DataRead 0 ∷ Reti ∷ ControlWrite 1 2 ∷ ControlRead 1 ∷ []
 
+-- the numbers that the list program prints: the rows, then notes and ticks in all; or the refusal alone
+abbrev pub printed : Report → List ℕ
+printed (report rows notes ticks) = rows ++ (notes ∷ ticks ∷ [])
+printed (refusal k) = numberOf k ∷ []
+
+-- 9. "Input 01 0001 00 0001 FF 0001 88 (hex) prints `1 1 0 40`, `2 1 2 42`, `3 1 1 41`, `end 3 107`."
+abbrev pub input9 : List ℕ
+input9 = 0x01 ∷ 0x00 ∷ 0x01 ∷ 0x00 ∷ 0x00 ∷ 0x01 ∷ 0xFF ∷ 0x00 ∷ 0x01 ∷ 0x88 ∷ []
+
+abbrev pub output9 : List ℕ
+output9 = 1 ∷ 1 ∷ 0 ∷ 40 ∷ 2 ∷ 1 ∷ 2 ∷ 42 ∷ 3 ∷ 1 ∷ 1 ∷ 41 ∷ 3 ∷ 107 ∷ []
+
+-- 10. "Input 01: `end 0 0`. Length 2048 passes, 2049 and 0 are 6.": a list of one note, n bytes 00. That of 2,048 passes with a row, of which the
+-- table has the first two numbers: to count its zeros here would take longer than all the rest
+abbrev pub oneNote : ℕ → List ℕ
+oneNote n = 0x01 ∷ n / 256 ∷ n % 256 ∷ replicate n 0x00
+
 abbrev pub examples : List Example
 examples =
     example 1 (lineOf sdlcSender 0x00 40) line1
@@ -91,4 +111,9 @@ examples =
     ∷ example 6 (readsBack sevenOdd 0x41 10) (0xC1 ∷ [])
     ∷ example 7 (readsBack fiveEven 0x01 8) (0xE1 ∷ [])
     ∷ example 8 (given special8 asks8) (0xEE ∷ 0xFF ∷ 0 ∷ 0 ∷ 0xE6 ∷ [])
+    ∷ example 9 (printed (reportOf input9)) output9
+    ∷ example 10 (printed (reportOf (0x01 ∷ []))) (0 ∷ 0 ∷ [])
+    ∷ example 10 (take 2 (printed (reportOf (oneNote 2048)))) (1 ∷ 2048 ∷ [])
+    ∷ example 10 (printed (reportOf (oneNote 2049))) (6 ∷ [])
+    ∷ example 10 (printed (reportOf (oneNote 0))) (6 ∷ [])
     ∷ []

@@ -2,4 +2,3 @@ pub mod Drive
 pub mod Parts
 pub mod Report
 pub mod Laws
-pub mod Example

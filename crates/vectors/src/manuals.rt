@@ -114,6 +114,6 @@ fn synchronous(start: Tally) -> Tally {
     )
 }
 
-pub fn manuals(start: Tally) -> Tally {
+pub(crate) fn manuals(start: Tally) -> Tally {
     synchronous(asynchronous(vectors(interrupts(start))))
 }
