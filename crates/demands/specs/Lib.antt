@@ -2,4 +2,5 @@ pub mod Story
 pub mod Receiving
 pub mod Sending
 pub mod Together
+pub mod Example
 pub mod Refusing

@@ -15,7 +15,7 @@ use Rattle.queue.specs.declared.Entry.{Entry}
 use Rattle.queue.specs.declared.Queue.{Queue}
 use Rattle.queue.specs.Entry.{plainEntry}
 use Rattle.queue.specs.Queue.{room, waits, rr1, rr1Of}
-use Rattle.queue.specs.Laws.{Holds, h0, three-empty, latches-holds, rr1-holds, none-waits}
+use Rattle.queue.specs.Laws.{Holds, h0, h1, h2, h3, three-empty, latches-holds, rr1-holds, none-waits}
 use Rattle.receiver.specs.declared.Receiving.{Receiving}
 use Rattle.receiver.specs.declared.Receiver.{Receiver}
 use Rattle.receiver.specs.Sdlc.{past}
@@ -100,21 +100,22 @@ demand2 w c st note l n b f e =
     received-bytes w c st false (withCheck note) l f (ap (hearAll (listening g) s) e ∙ frame-heard g s note n (l .start) b)
 
 -- once all is read the channel listens as it did: the next frame may follow
-holds-none : {p o : Bool} {q : Queue} → Holds p o q [] → (q .count ≡ 0) × (length (q .entries) ≡ room)
-holds-none h0 = (refl, refl)
+holds-three : {p o : Bool} {q : Queue} {es : List Entry} → Holds p o q es → length (q .entries) ≡ room
+holds-three h0 = refl
+holds-three (h1 a) = refl
+holds-three (h2 a b) = refl
+holds-three (h3 a b c) = refl
 
-pub listens-again : (w : Which) (c : Chip) (st : List Event) (bytes : List ℕ) (es : List Entry) → Listening (sideOf w c) → (r : Received w c st bytes es) → r .waiting ≡ []
-    → Listening (sideOf w (after c st))
-listens-again w c st bytes es l r n =
-    let h = holds-none (subst (Holds (chan w c .queue .parity) (chan w c .queue .overrun) (chan w (after c st) .queue)) n (r .holds)) in
-    record {
-      mode = ap (λ (g : Receiving). g .mode) (r .stays) ∙ l .mode;
-      on = ap (λ (g : Receiving). g .on) (r .stays) ∙ l .on;
-      search = ap (λ (g : Receiving). g .search) (r .stays) ∙ l .search;
-      empty = h .0;
-      three = h .1;
-      start = past-flag (ap (λ (s : Receiver). s .content) (r .ready));
-    }
+pub listens-again : (w : Which) (c : Chip) (st : List Event) (bytes : List ℕ) (es : List Entry) → Listening (sideOf w c) → Received w c st bytes es
+    → chan w (after c st) .queue .count ≡ 0 → Listening (sideOf w (after c st))
+listens-again w c st bytes es l r n = record {
+  mode = ap (λ (g : Receiving). g .mode) (r .stays) ∙ l .mode;
+  on = ap (λ (g : Receiving). g .on) (r .stays) ∙ l .on;
+  search = ap (λ (g : Receiving). g .search) (r .stays) ∙ l .search;
+  empty = n;
+  three = holds-three (r .holds);
+  start = past-flag (ap (λ (s : Receiver). s .content) (r .ready));
+}
 
 -- several notes
 pub notes2 : Notes2

@@ -5,7 +5,7 @@ use mathlib.Core.Bool.{Bool, true, false}
 use mathlib.Core.List.{List, [], _∷_, _++_}
 use Prim.Native.Nat.{ℕ, zero, suc, _+_, _*_}
 use native.Mathlib.Omega.{arith}
-use lib.ListN.{replicate}
+use lib.ListN.{take, replicate}
 use Rattle.line.specs.Bits.{lowBits, textBits}
 use Rattle.line.specs.Check.{checkStep, checkOver, topBits, checkBits}
 use Rattle.line.specs.Insertion.{stuff, zeros}
@@ -28,9 +28,11 @@ use Rattle.demands.specs.Story.{A, chan, after}
 use Rattle.demands.specs.Receiving.Statement as receiving
 use Rattle.demands.specs.Receiving.Heard.{hearAll}
 use Rattle.demands.specs.Receiving.Deaf.{endMarks}
-use Rattle.demands.specs.Sending.Side.{lineOf, ticks}
-use Rattle.demands.specs.Sending.Statement.{Start, RunsDry, d6, statusLatched, resetStatus, SendsAbort, Aborted, NotClosed}
-use Rattle.demands.specs.Sending.Underrun.{fed-late, underrun-seen, never-unseen}
+use Rattle.demands.specs.Sending.Side.{fullOf, latchOf, lineOf, ticks}
+use Rattle.demands.specs.Sending.Statement.{Start, Closing, anew, RunsDry, Underrun, d6, statusLatched, resetStatus, SendsAbort, Aborted, NotClosed}
+use Rattle.demands.specs.Sending.Frame.{frame-begun}
+use Rattle.demands.specs.Sending.Chain.{starts-anew, frame-ends}
+use Rattle.demands.specs.Sending.Underrun.{underrun, fed-late, underrun-seen, no-incident, reset-shows, never-unseen}
 use Rattle.demands.specs.Sending.Unclosed.{frame-seen}
 use Rattle.demands.specs.Sending.Abort.{abort3}
 use Rattle.demands.specs.Sending.Timely.{timely, in-time, demand3-tested, freely, free-of, watching, watched-of}
@@ -68,6 +70,9 @@ dry = DataWrite 0 0 ∷ times 13 tick
 abbrev pub late : List Event
 late = DataWrite 0 0 ∷ times 23 tick
 
+abbrev pub whole : List Event
+whole = dry ++ (Transmit 0 ∷ late)
+
 -- Send Abort amid the second byte, and a byte of the next frame
 abbrev pub begun : List Event
 begun = DataWrite 0 1 ∷ (times 9 tick ++ (DataWrite 0 2 ∷ times 8 tick))
@@ -85,12 +90,17 @@ endsIn line = endMarks (hearAll (receiving.sideOf A begin .settings) reset line 
 abbrev pub choosing : Chip
 choosing = after begin dry
 
+-- DCD has latched status before the tick that finds the line dry
+abbrev pub held : Chip
+held = after choosing (SetLines 0 1 0 ∷ Transmit 0 ∷ [])
+
 pub record Examples : Type 0 where
   pub starts : Start A begin 3
   -- in time, though it is amid all that
   pub noisy-timely : timely A begin 2 (255 ∷ 136 ∷ []) noisy ≡ true
   pub noisy-line : flagHead 3 ++ lineOf A begin noisy ≡ frame (255 ∷ 136 ∷ [])
   pub noisy-ticks : 3 + ticks A noisy ≡ 8 * (2 + 2) + 16 + 2
+  pub noisy-end : (fullOf A (after begin noisy) ≡ false) × (chan A (after begin noisy) .pointer ≡ 0)
   -- seven ticks may pass, the eighth may not
   pub seven : timely A begin 2 (0 ∷ 0 ∷ []) (second 7) ≡ true
   pub eight : timely A begin 2 (0 ∷ 0 ∷ []) (second 8) ≡ false
@@ -107,14 +117,15 @@ pub record Examples : Type 0 where
   pub at-wr0 : (chan A choosing .pointer ≡ 0) × (chan A (after choosing (Transmit 0 ∷ late)) .pointer ≡ 0)
   pub late-free : freely A (step choosing (Transmit 0) .chip) late ≡ true
   pub dry-watched : watching A begin dry ≡ true
-  pub late-watched : watching A begin (dry ++ (Transmit 0 ∷ late)) ≡ true
-  pub late-wr0 : chan A (after begin (dry ++ (Transmit 0 ∷ late))) .pointer ≡ 0
+  pub late-watched : watching A begin whole ≡ true
+  pub late-wr0 : chan A (after begin whole) .pointer ≡ 0
   pub before-choice : d6 A choosing ≡ false
   pub at-choice : d6 A (step choosing (Transmit 0) .chip) ≡ true
-  pub late-line : flagHead 3 ++ lineOf A begin (dry ++ (Transmit 0 ∷ late)) ≡ frame (0 ∷ [])
-  -- DCD has latched status before: D6 reads as before, and behind Reset External/Status as it is
-  pub held-back : d6 A (after choosing (SetLines 0 1 0 ∷ Transmit 0 ∷ [])) ≡ false
-  pub shown-afresh : d6 A (after choosing (SetLines 0 1 0 ∷ Transmit 0 ∷ ControlWrite 0 resetStatus ∷ [])) ≡ true
+  pub late-line : flagHead 3 ++ lineOf A begin whole ≡ frame (0 ∷ [])
+  -- status latched before: D6 reads as before, and behind Reset External/Status as it is
+  pub held-back : d6 A held ≡ false
+  pub held-set : (chan A held .pointer ≡ 0) × (latchOf A held ≡ true)
+  pub shown-afresh : d6 A (step held (ControlWrite 0 resetStatus) .chip) ≡ true
   -- an abort: eight ones and a flag; the receiver tells no end, and would have told one of the whole frame
   pub begun-timely : timely A begin 2 (1 ∷ 2 ∷ []) begun ≡ true
   pub aborts : SendsAbort A (after begin begun) sendAbort
@@ -139,6 +150,7 @@ examples = record {
   noisy-timely = refl;
   noisy-line = refl;
   noisy-ticks = refl;
+  noisy-end = (refl, refl);
   seven = refl;
   eight = refl;
   first = refl;
@@ -157,6 +169,7 @@ examples = record {
   at-choice = refl;
   late-line = refl;
   held-back = refl;
+  held-set = (refl, refl);
   shown-afresh = refl;
   begun-timely = refl;
   aborts = record { to-wr0 = refl; command = refl };
@@ -172,26 +185,63 @@ noisy-sent : flagHead 3 ++ lineOf A begin noisy ≡ frame (255 ∷ 136 ∷ [])
 unfolding ticks times stuff zeros textBits lowBits checkOver checkStep checkBits topBits
 noisy-sent = demand3-tested A begin 3 255 (136 ∷ []) noisy (examples .starts) (examples .noisy-timely) refl
 
-late-sent : flagHead 3 ++ lineOf A begin (dry ++ (Transmit 0 ∷ late)) ≡ frame (0 ∷ [])
+noisy-ends : Closing A (after begin noisy) 8
+unfolding ticks times stuff zeros textBits lowBits checkOver checkStep checkBits topBits
+noisy-ends =
+    frame-ends A begin 3 255 (136 ∷ []) noisy (examples .starts) (in-time A begin 2 (255 ∷ 136 ∷ []) noisy (examples .noisy-timely)) refl
+    (examples .noisy-end .0) (examples .noisy-end .1)
+
+next-starts : Start A (after (after begin noisy) (anew A)) 8
+next-starts = starts-anew A (after begin noisy) 8 noisy-ends
+
+begun-sent : flagHead 3 ++ lineOf A begin begun ≡ take 20 (frame (1 ∷ 2 ∷ []))
+unfolding ticks times stuff zeros textBits lowBits checkOver checkStep checkBits topBits
+begun-sent =
+    frame-begun A begin 3 1 (2 ∷ []) [] begun (examples .starts) (in-time A begin 2 (1 ∷ 2 ∷ []) begun (examples .begun-timely)) (omega arith)
+
+dry-underrun : Underrun A choosing
+dry-underrun = underrun A choosing (examples .at-wr0 .0) (examples .runs-dry)
+
+late-sent : flagHead 3 ++ lineOf A begin whole ≡ frame (0 ∷ [])
 unfolding ticks times stuff zeros textBits lowBits checkOver checkStep checkBits topBits
 late-sent =
     fed-late A begin 3 0 [] dry late (examples .starts) (in-time A begin 2 (0 ∷ []) dry (examples .dry-timely)) (examples .runs-dry)
     (free-of A (step choosing (Transmit 0) .chip) late (examples .late-free)) refl
-
-aborted-sent : Aborted A begin 3 begun sendAbort
-unfolding ticks times stuff zeros textBits lowBits checkOver checkStep checkBits topBits
-aborted-sent =
-    abort3 A begin 3 1 (2 ∷ []) [] begun sendAbort (examples .starts) (in-time A begin 2 (1 ∷ 2 ∷ []) begun (examples .begun-timely)) (omega arith) (examples .aborts)
 
 late-seen : d6 A (after choosing (Transmit 0 ∷ late)) ≡ true
 late-seen =
     underrun-seen A choosing late (examples .runs-dry) (examples .unlatched) (free-of A (step choosing (Transmit 0) .chip) late (examples .late-free))
     (examples .at-wr0 .1)
 
+-- two bytes were meant and one went out: all of the incident but its end
+late-told : d6 A (after begin whole) ≡ false → ⊥
+late-told unseen =
+    no-incident A begin (0 ∷ 0 ∷ []) dry late (record {
+      p = 3;
+      v = 0;
+      vs = [];
+      start = examples .starts;
+      fed = in-time A begin 2 (0 ∷ []) dry (examples .dry-timely);
+      fewer = omega arith;
+      dry = examples .runs-dry;
+      unlatched = examples .unlatched;
+      late = free-of A (step choosing (Transmit 0) .chip) late (examples .late-free);
+      closed = examples .late-line;
+      looks = examples .late-wr0;
+      unseen = unseen;
+    })
+
+held-shown : d6 A (step held (ControlWrite 0 resetStatus) .chip) ≡ true
+held-shown = reset-shows A held (examples .held-set .0) (examples .held-set .1)
+
 dry-open : NotClosed A choosing
 dry-open = never-unseen A begin 3 dry (examples .starts) (watched-of A begin dry (examples .dry-watched)) (examples .at-wr0 .0) (examples .before-choice)
 
-frame-shows : d6 A (after begin (dry ++ (Transmit 0 ∷ late))) ≡ true
+frame-shows : d6 A (after begin whole) ≡ true
 frame-shows =
-    frame-seen A begin 3 (dry ++ (Transmit 0 ∷ late)) (0 ∷ []) (examples .starts) (watched-of A begin (dry ++ (Transmit 0 ∷ late)) (examples .late-watched))
-    (examples .late-wr0) (examples .late-line)
+    frame-seen A begin 3 whole (0 ∷ []) (examples .starts) (watched-of A begin whole (examples .late-watched)) (examples .late-wr0) (examples .late-line)
+
+aborted-sent : Aborted A begin 3 begun sendAbort
+unfolding ticks times stuff zeros textBits lowBits checkOver checkStep checkBits topBits
+aborted-sent =
+    abort3 A begin 3 1 (2 ∷ []) [] begun sendAbort (examples .starts) (in-time A begin 2 (1 ∷ 2 ∷ []) begun (examples .begun-timely)) (omega arith) (examples .aborts)
