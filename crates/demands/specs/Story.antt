@@ -4,7 +4,10 @@ use mathlib.Core.List.{List, [], _∷_, _++_}
 use Prim.Native.Nat.{ℕ}
 use Rattle.channel.specs.declared.Channel.{Channel}
 use Rattle.chip.specs.declared.Chip.{Chip}
+use Rattle.chip.specs.Chip.{hardReset}
 use Rattle.chip.specs.Event.{Event, step}
+use Rattle.chip.specs.Sound.{SoundChip}
+use Rattle.chip.specs.Laws.Sound.{hard-reset-sound, step-sound}
 
 -- 01, The part we model: "two channels, A (0) and B (1)"
 pub data Which : Type 0 where
@@ -28,3 +31,12 @@ pub after-join : (c : Chip) (xs ys : List Event) → after c (xs ++ ys) ≡ afte
 unfolding after
 after-join c [] ys = refl
 after-join c (x ∷ xs) ys = after-join (step c x .chip) xs ys
+
+-- what only chips with a history have, a story keeps, and every chip behind a hard reset has
+pub after-sound : (c : Chip) (st : List Event) → SoundChip c → SoundChip (after c st)
+unfolding after
+after-sound c [] h = h
+after-sound c (e ∷ st) h = after-sound (step c e .chip) st (step-sound c e h)
+
+pub reset-sound : (st : List Event) → SoundChip (after hardReset st)
+reset-sound st = after-sound hardReset st hard-reset-sound

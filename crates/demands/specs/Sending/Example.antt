@@ -24,13 +24,13 @@ use Rattle.chip.specs.Interrupts.{highestOf, pendingLevel, serviceLevel, anyPen
 use Rattle.chip.specs.Chip.{hardReset, controlWriteA, controlWrite, controlReadCall, dataWriteCall, dataReadCall, transmitCall, receiveCall, linesCall}
 use Rattle.chip.specs.Event.{Event, ControlWrite, ControlRead, DataWrite, DataRead, Transmit, Receive, SetLines, Acknowledge, Reti, step}
 use Rattle.come.specs.Start.{flagHead}
-use Rattle.demands.specs.Story.{A, chan, after}
+use Rattle.demands.specs.Story.{A, chan, after, reset-sound}
 use Rattle.demands.specs.Receiving.Statement as receiving
 use Rattle.demands.specs.Receiving.Heard.{hearAll}
 use Rattle.demands.specs.Receiving.Deaf.{endMarks}
 use Rattle.demands.specs.Sending.Side.{fullOf, latchOf, lineOf, ticks}
 use Rattle.demands.specs.Sending.Statement.{Start, Closing, anew, RunsDry, Underrun, d6, statusLatched, resetStatus, SendsAbort, Aborted, NotClosed}
-use Rattle.demands.specs.Sending.Frame.{frame-begun}
+use Rattle.demands.specs.Sending.Frame.{start-of, frame-begun}
 use Rattle.demands.specs.Sending.Chain.{starts-anew, frame-ends}
 use Rattle.demands.specs.Sending.Underrun.{underrun, fed-late, underrun-seen, no-incident, reset-shows, never-unseen}
 use Rattle.demands.specs.Sending.Unclosed.{frame-seen}
@@ -46,9 +46,13 @@ tick = Transmit 0 ∷ []
 
 -- from a hard reset: WR4 for SDLC, WR5 with the sender on and the check included, the check preset, the latch cleared, the receiver on, status
 -- shown afresh twice, since the cleared latch and the hunt had latched it; then three bits of a flag
+abbrev pub setUp : List Event
+setUp =
+    ControlWrite 0 4 ∷ ControlWrite 0 0b100000 ∷ ControlWrite 0 5 ∷ ControlWrite 0 0b1001 ∷ ControlWrite 0 0b10000000 ∷ ControlWrite 0 0b11000000
+    ∷ ControlWrite 0 3 ∷ ControlWrite 0 0b1 ∷ ControlWrite 0 resetStatus ∷ times 3 tick
+
 abbrev pub begin : Chip
-begin = after hardReset (ControlWrite 0 4 ∷ ControlWrite 0 0b100000 ∷ ControlWrite 0 5 ∷ ControlWrite 0 0b1001 ∷ ControlWrite 0 0b10000000
-    ∷ ControlWrite 0 0b11000000 ∷ ControlWrite 0 3 ∷ ControlWrite 0 0b1 ∷ ControlWrite 0 resetStatus ∷ times 3 tick)
+begin = after hardReset setUp
 
 -- A's frame FF 88 goes out, while B is written, ticked and reset, A listens, is read and acknowledged, lines change, WR1, WR3, WR4 and WR5 are
 -- written as far as they leave the sender alone, and calls are refused
@@ -137,16 +141,9 @@ pub record Examples : Type 0 where
 pub examples : Examples
 unfolding timely freely watching hearAll times lineOf ticks after stuff zeros textBits lowBits checkOver checkStep checkBits topBits controlWriteA controlWrite controlReadCall dataWriteCall dataReadCall transmitCall receiveCall linesCall highestOf pendingLevel serviceLevel anyPending serving atLevel mayTake acknowledge reti liveOf settled commanded preset commandStep presetStep writeWr0 setWr4 setRegister controlWritten rr0 rr1Now readRegister dataRead transmitTick receiveTick linesSet specialWaits receivePending pendingIn changed noticed afresh sender.following sender.going sender.tickSdlc sender.tick hear one zeroBit push accept pushed taken oldest special modeOf notBuilt lengthOf sendingOf receivingOf
 examples = record {
-  starts = record {
-    some = omega arith;
-    inside = omega arith;
-    flag = refl;
-    empty = refl;
-    preset = refl;
-    cleared = refl;
-    settings = record { sdlc-mode = refl; on = refl; included = refl; no-break = refl };
-    history = (refl, refl, omega arith);
-  };
+  starts =
+      start-of A begin 3 (reset-sound setUp) (omega arith) (omega arith) refl refl refl refl
+      (record { sdlc-mode = refl; on = refl; included = refl; no-break = refl });
   noisy-timely = refl;
   noisy-line = refl;
   noisy-ticks = refl;

@@ -7,6 +7,7 @@ use native.Mathlib.Omega.{arith}
 use lib.ListN.{length, take, length-append}
 use lib.Seq.{take-at}
 use Rattle.line.specs.Bits.{oneIf}
+use Rattle.line.specs.Check.{ones}
 use Rattle.line.specs.Frame.{frame}
 use Rattle.line.specs.Laws.Frame.{ticks-are}
 use Rattle.line.specs.Laws.Frame as laws
@@ -14,18 +15,19 @@ use Rattle.sender.specs.declared.LineUnit.the-variants.{Flag}
 use Rattle.sender.specs.declared.Sender.{Sender}
 use Rattle.sender.specs.declared.Ticked.{Ticked}
 use Rattle.sender.specs.Sender.{core, sender, tick, written}
-use Rattle.sender.specs.Sound.{SoundUnit}
+use Rattle.sender.specs.Sound.{SoundUnit, SoundSender}
 use Rattle.channel.specs.Channel.{settled}
 use Rattle.channel.specs.Events.{transmitTick}
 use Rattle.chip.specs.declared.Chip.{Chip}
 use Rattle.chip.specs.Chip.{onLevel, dataWriteCall, transmitCall}
 use Rattle.chip.specs.Event.{Event, DataWrite, Transmit, step}
-use Rattle.come.specs.Come.{toCome}
+use Rattle.chip.specs.Sound.{SoundChip}
+use Rattle.come.specs.Come.{Good, toCome}
 use Rattle.come.specs.Stage.{sinceAfter, inTime, Stage}
 use Rattle.come.specs.Laws.{takes, moves, later}
 use Rattle.come.specs.Start.{started, flagHead, head-length, at-start, start-stage}
 use Rattle.demands.specs.Story.{Which, A, B, number, chan, after}
-use Rattle.demands.specs.Sending.Side.{Heeded, heeded, good, good-of, good-heeded, SenderSide, side, sendingIn, sideOf, fullOf, Role, View, its-tick, its-write, other, view, ticksBy, isTick, lineBit, lineOf, ticks}
+use Rattle.demands.specs.Sending.Side.{Heeded, heeded, good, good-of, good-heeded, SenderSide, side, sendingIn, sideOf, fullOf, latchOf, Role, View, its-tick, its-write, other, view, ticksBy, isTick, lineBit, lineOf, ticks}
 use Rattle.demands.specs.Sending.Statement.{Start, InTime, over, still, writes, next-frame, ticking, FrameSent, FrameBegun, ZerosFew}
 
 -- What the three kinds of event are to the side
@@ -149,6 +151,24 @@ line-length w c (e ∷ st) =
     omega (arith, length-append (lineBit (isTick w e) (step c e .answer)) (lineOf w (step c e .chip) st), bit-length w c e, line-length w (step c e .chip) st)
 
 -- Demand 3
+
+-- what the demand does not say, a chip has that came from a reset by events (`reset-sound` in Story)
+sender-sound : (w : Which) (c : Chip) → SoundChip c → SoundSender (chan w c .sender)
+sender-sound A c h = h .0 .sender
+sender-sound B c h = h .1 .sender
+
+pub start-of : (w : Which) (c : Chip) (p : ℕ) → SoundChip c → 1 ≤ p → p ≤ 8 → chan w c .sender .unit ≡ Flag (8 - p) → fullOf w c ≡ false
+    → chan w c .sender .core .check ≡ ones → latchOf w c ≡ false → Good (sendingIn (chan w c)) → Start w c p
+start-of w c p h some inside flag empty preset cleared settings = record {
+  some = some;
+  inside = inside;
+  flag = flag;
+  empty = empty;
+  preset = preset;
+  cleared = cleared;
+  settings = settings;
+  history = sender-sound w c h;
+}
 
 -- the demand's words are the state at the start
 pub start-side : (w : Which) (c : Chip) (p : ℕ) → Start w c p → sideOf w c ≡ side (started p (chan w c .sender .core .buffer)) good

@@ -30,7 +30,7 @@ use Rattle.demands.specs.Receiving.Deaf.{flagFree, endMarks, NoEndTold}
 use Rattle.demands.specs.Sending.Side.{sendingIn, sideOf, fullOf, latchOf, Else, role, isTick, lineOf, ticks}
 
 -- "Start during a flag with the SDLC sender on .., buffer empty, check preset to ones and included, underrun latch cleared, no break since it
--- began": p of the flag's bits are sent. The last line is so of every chip that came from a reset by events
+-- began": p of the flag's bits are sent. The last line is so of every chip that came from a reset by events: `start-of` in Frame
 pub record Start (w : Which) (c : Chip) (p : ℕ) : Type 0 where
   pub some : 1 ≤ p
   pub inside : p ≤ 8
