@@ -26,15 +26,16 @@ use Rattle.chip.specs.Interrupts.{highestOf, pendingLevel, serviceLevel, anyPen
 use Rattle.chip.specs.Chip.{controlWriteA, controlWrite, controlReadCall, dataWriteCall, dataReadCall, transmitCall, receiveCall, linesCall}
 use Rattle.chip.specs.Event.{Event, DataRead}
 use Rattle.come.specs.Start.{flagHead}
-use Rattle.demands.specs.Story.{A, B, chan, after}
-use Rattle.demands.specs.Receiving.Statement.{sideOf, Listening, in-hunt, bitsOf, withCheck, ended, Received}
+use Rattle.stories.specs.Story.{A, B, chan, after}
+use Rattle.stories.specs.Sent.{lineOf, ticks}
+use Rattle.stories.specs.Received.{bitsOf}
+use Rattle.stories.specs.Sending.{times, begin, noisy, begun}
+use Rattle.stories.specs.Receiving.{listening, story}
+use Rattle.demands.specs.Receiving.Statement.{sideOf, Listening, in-hunt, withCheck, ended, Received}
 use Rattle.demands.specs.Receiving.Deaf.{flagFree, lead, NoEndTold}
 use Rattle.demands.specs.Receiving.Room.{inRoom, fed}
-use Rattle.demands.specs.Receiving.Example.{listening, story}
-use Rattle.demands.specs.Sending.Side.{lineOf, ticks}
 use Rattle.demands.specs.Sending.Timely.{in-time}
 use Rattle.demands.specs.Sending.Abort.{abort-unheard}
-use Rattle.demands.specs.Sending.Example.{times, begin, noisy, begun}
 use Rattle.demands.specs.Sending.Example as sending
 use Rattle.demands.specs.Together.{together}
 
@@ -85,13 +86,13 @@ examples = record {
 noisy-together : Received B (listening B) (hears (sent noisy)) (withCheck (255 ∷ 136 ∷ [])) (ended false (withCheck (255 ∷ 136 ∷ [])))
 unfolding ticks times stuff zeros textBits lowBits checkOver checkStep checkBits topBits
 noisy-together =
-    together A begin 3 255 (136 ∷ []) noisy (sending.examples .starts) (in-time A begin 2 (255 ∷ 136 ∷ []) noisy (sending.examples .noisy-timely)) refl
+    together A begin 3 255 (136 ∷ []) noisy sending.starts (in-time A begin 2 (255 ∷ 136 ∷ []) noisy (sending.examples .noisy-timely)) refl
     (more (omega arith) (more (omega arith) none)) B (listening B) (hears (sent noisy)) (examples .listens)
     (fed B (listening B) (hears (sent noisy)) (examples .room)) (examples .bits)
 
 cut-unheard : NoEndTold B past (hears cut) false false
 unfolding ticks times stuff zeros textBits lowBits checkOver checkStep checkBits topBits
 cut-unheard =
-    abort-unheard A begin 3 1 (2 ∷ []) [] begun (sending.examples .starts) (in-time A begin 2 (1 ∷ 2 ∷ []) begun (sending.examples .begun-timely)) (omega arith)
+    abort-unheard A begin 3 1 (2 ∷ []) [] begun sending.starts (in-time A begin 2 (1 ∷ 2 ∷ []) begun (sending.examples .begun-timely)) (omega arith)
     (omega arith) B past (hears cut) false false [] lead false (examples .mode) (examples .on) (examples .past-flag) (examples .empty) refl
     (fed B past (hears cut) (examples .cut-room)) (examples .cut-bits) (examples .no-flag)

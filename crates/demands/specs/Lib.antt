@@ -1,4 +1,4 @@
-pub mod Story
+pub mod Sound
 pub mod Receiving
 pub mod Sending
 pub mod Together

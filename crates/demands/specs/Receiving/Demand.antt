@@ -27,9 +27,10 @@ use Rattle.channel.specs.Control.{rr1Now, readRegister}
 use Rattle.chip.specs.declared.Chip.{Chip}
 use Rattle.chip.specs.Interrupts.{anyPending, rr2}
 use Rattle.chip.specs.Chip.{controlReadCall}
-use Rattle.chip.specs.Event.{Event, ControlRead, step}
-use Rattle.demands.specs.Story.{Which, A, B, number, chan, after}
-use Rattle.demands.specs.Receiving.Statement.{Side, sideOf, past-flag, Listening, role, bitIn, bitsOf, Fed, over, hears, reads, still, valuesOf, tookOf, bytesOf, withCheck, ended, Received, Demand2, Moment, Always2, goodEnd, noEnd, Mark2, Notes2, allEnded}
+use Rattle.chip.specs.Event.{Event, ControlRead}
+use Rattle.stories.specs.Story.{Which, A, B, number, chan, happens, after}
+use Rattle.stories.specs.Received.{role, bitIn, bitsOf, valuesOf, tookOf, bytesOf, goodEnd, noEnd}
+use Rattle.demands.specs.Receiving.Statement.{Side, sideOf, past-flag, Listening, Fed, over, hears, reads, still, withCheck, ended, Received, Demand2, Moment, Always2, Mark2, Notes2, allEnded}
 use Rattle.demands.specs.Receiving.Bytes.{withCheck-length}
 use Rattle.demands.specs.Receiving.Heard.{Final, final, before, hearAll}
 use Rattle.demands.specs.Receiving.Frame.{listening, frame-heard, notes-heard}
@@ -207,7 +208,7 @@ unfolding readRegister rr1Now receivingOf sendingOf
 rr1-in c pending vector p d =
     rw p (ap (λ (k : Mode). rr1 (c .queue) (inSdlc k || (not (underWay (c .sender .unit)) && not (c .sender .core .full)))) d)
 
-rr1-read : (w : Which) (c : Chip) → chan w c .pointer ≡ 1 → sideOf w c .settings .mode ≡ Sdlc → step c (ControlRead (number w)) .answer ≡ Gave (rr1 (chan w c .queue) true)
+rr1-read : (w : Which) (c : Chip) → chan w c .pointer ≡ 1 → sideOf w c .settings .mode ≡ Sdlc → happens c (ControlRead (number w)) .answer ≡ Gave (rr1 (chan w c .queue) true)
 unfolding controlReadCall
 rr1-read A c p d = ap Gave (rr1-in (c .a) (anyPending c) 0 p d)
 rr1-read B c p d = ap Gave (rr1-in (c .b) false (rr2 c) p d)

@@ -1,15 +1,14 @@
--- Stories that meet what demand 2 asks, computed: 01's marked example 4, "Frame 2 received: FF, 00, FF; the last ends, good", on channel A,
--- with other events behind every bit; two notes in a row; a bit flipped; and stories that do not meet it. Then the theorems, said of them.
--- Assumes nothing.
+-- The stories of demand 2, computed to meet what it asks: marked example 4 with other events behind every bit, with RR1 read at its last
+-- character, with a bit flipped; two notes in a row; and stories that do not meet it. Then the theorems, said of them. Assumes nothing.
 use mathlib.Core.Path.{_≡_, refl, ap, _∙_}
-use mathlib.Core.Bool.{Bool, true, false}
+use mathlib.Core.Bool.{true, false}
 use mathlib.Core.List.{List, [], _∷_, _++_}
 use Prim.Native.Nat.{ℕ, _+_}
 use native.Mathlib.Omega.{arith}
 use lib.Dec.{eqb}
-use lib.ListN.{length, drop}
+use lib.ListN.{length}
 use Rattle.common.specs.Choice.{if_then_else_}
-use Rattle.line.specs.Bits.{oneIf, lowBits, textBits}
+use Rattle.line.specs.Bits.{lowBits, textBits}
 use Rattle.line.specs.Check.{checkStep, checkOver, topBits, checkBits}
 use Rattle.line.specs.Insertion.{stuff}
 use Rattle.line.specs.Frame.{flagBits, contentOf, frame}
@@ -26,42 +25,17 @@ use Rattle.channel.specs.Control.{commanded, preset, commandStep, presetStep, w
 use Rattle.channel.specs.Events.{dataRead, transmitTick, receiveTick, linesSet, specialWaits, receivePending, pendingIn}
 use Rattle.chip.specs.declared.Chip.{Chip}
 use Rattle.chip.specs.Interrupts.{highestOf, pendingLevel, serviceLevel, anyPending, codeOf, vectorFor, rr2, serving, atLevel, mayTake, acknowledge, reti}
-use Rattle.chip.specs.Chip.{hardReset, controlWriteA, controlWrite, controlReadCall, dataWriteCall, dataReadCall, transmitCall, receiveCall, linesCall}
-use Rattle.chip.specs.Event.{Event, ControlWrite, ControlRead, DataWrite, DataRead, Transmit, Receive, SetLines, Acknowledge, Reti, step}
-use Rattle.demands.specs.Story.{Which, A, number, chan, after}
-use Rattle.demands.specs.Receiving.Statement.{sideOf, Listening, in-hunt, bitsOf, valuesOf, bytesOf, checkBytes, withCheck, ended, Received, Moment, goodEnd, noEnd, framesOf, allEnded, no-more, one-more, framed, Found}
+use Rattle.chip.specs.Chip.{controlWriteA, controlWrite, controlReadCall, dataWriteCall, dataReadCall, transmitCall, receiveCall, linesCall}
+use Rattle.chip.specs.Event.{Event, ControlWrite, ControlRead, DataRead}
+use Rattle.stories.specs.Story.{A, chan, happens, after}
+use Rattle.stories.specs.Received.{bitsOf, valuesOf, bytesOf, goodEnd, noEnd}
+use Rattle.stories.specs.Receiving.{listening, story, noise, noisy, unread, named, unflipped, flippedLine, told}
+use Rattle.demands.specs.Receiving.Statement.{sideOf, Listening, in-hunt, checkBytes, withCheck, ended, Received, Moment, framesOf, allEnded, no-more, one-more, framed, Found}
 use Rattle.demands.specs.Receiving.Room.{inRoom, fed, demand2-run}
 use Rattle.demands.specs.Receiving.Demand.{listens-again, notes2, always2, mark2}
 use Rattle.demands.specs.Receiving.Flip.{flipped2}
 
--- from a hard reset: WR4 for SDLC, WR3 on
-abbrev pub listening : Which → Chip
-listening w = after hardReset (ControlWrite (number w) 4 ∷ ControlWrite (number w) 0b100000 ∷ ControlWrite (number w) 3 ∷ ControlWrite (number w) 0b1 ∷ [])
-
-abbrev pub begin : Chip
-begin = listening A
-
--- each bit of a line, with the same events behind it
-unfoldable pub story : Which → List Event → List Bool → List Event
-story w noise [] = []
-story w noise (b ∷ bs) = Receive (number w) (oneIf b) ∷ (noise ++ story w noise bs)
-
--- the other channel's ticks, reads and reset, this sender's, status reads, lines, interrupts, and calls that are refused
-abbrev pub noise : List Event
-noise =
-    Receive 1 1 ∷ DataRead 0 ∷ ControlWrite 0 0b10001 ∷ ControlRead 0 ∷ DataWrite 0 3 ∷ Transmit 0 ∷ SetLines 0 1 1 ∷ DataRead 1 ∷ ControlWrite 1 0b11000
-    ∷ Acknowledge ∷ Reti ∷ Receive 0 2 ∷ DataRead 2 ∷ []
-
-abbrev pub noisy : List Event
-noisy = story A noise (frame (0xFF ∷ []))
-
-abbrev pub unread : List Event
-unread = story A [] (frame (0xFF ∷ []))
-
--- all but the last are read, and RR1 is named; then the rest
-abbrev pub named : List Event
-named = unread ++ (DataRead 0 ∷ DataRead 0 ∷ ControlWrite 0 1 ∷ [])
-
+-- what is left once RR1 is named
 abbrev pub looks : List Event
 looks = ControlRead 0 ∷ DataRead 0 ∷ []
 
@@ -72,33 +46,29 @@ notes = (0xFF ∷ []) ∷ (0x88 ∷ []) ∷ []
 abbrev pub twice : List Event
 twice = story A noise (flagBits ++ framesOf notes)
 
--- the frame of FF with its first content bit flipped
-abbrev pub unflipped : List Bool
-unflipped = drop 1 (contentOf (0xFF ∷ []))
-
 abbrev pub flipped : List Event
-flipped = story A noise (framed (false ∷ unflipped))
+flipped = story A noise flippedLine
+
+abbrev pub begin : Chip
+begin = listening A
 
 pub record Examples : Type 0 where
   pub listens : Listening (sideOf A begin)
   pub room : inRoom A begin noisy ≡ true
-  pub bits : bitsOf A noisy ≡ frame (0xFF ∷ [])
-  -- what the reads answered, and FF with its check; then nothing waits
-  pub values : valuesOf A begin noisy ≡ 0xFF ∷ 0x00 ∷ 0xFF ∷ []
+  -- FF with its check; behind the story nothing waits
   pub check : withCheck (0xFF ∷ []) ≡ 0xFF ∷ 0x00 ∷ 0xFF ∷ []
   pub all-read : chan A (after begin noisy) .queue .count ≡ 0
-  -- three may wait unread; RR1 shows the last one's mark when the two before it are read; a fourth finds no room
+  -- three may wait unread, and a fourth finds no room
   pub three : inRoom A begin unread ≡ true
+  pub fourth : inRoom A begin (story A [] (frame (0xFF ∷ 0x88 ∷ []))) ≡ false
+  -- a WR3 write is not quiet, whatever it writes
+  pub touched : inRoom A begin (story A (ControlWrite 0 3 ∷ ControlWrite 0 0b1 ∷ []) (frame (0xFF ∷ []))) ≡ false
   pub named-room : inRoom A begin (named ++ looks) ≡ true
   pub named-bits : bitsOf A (named ++ looks) ≡ frame (0xFF ∷ [])
   pub no-latch : (chan A begin .queue .parity ≡ false) × (chan A begin .queue .overrun ≡ false)
   pub last-waits : waits (chan A (after begin named) .queue) ≡ true
   pub rr1-named : chan A (after begin named) .pointer ≡ 1
   pub two-read : length (valuesOf A begin named) ≡ 2
-  pub mark : step (after begin named) (ControlRead 0) .answer ≡ Gave goodEnd
-  pub fourth : inRoom A begin (story A [] (frame (0xFF ∷ 0x88 ∷ []))) ≡ false
-  -- a WR3 write is not quiet, whatever it writes
-  pub touched : inRoom A begin (story A (ControlWrite 0 3 ∷ ControlWrite 0 0b1 ∷ []) (frame (0xFF ∷ []))) ≡ false
   pub twice-room : inRoom A begin twice ≡ true
   pub twice-bits : bitsOf A twice ≡ flagBits ++ framesOf notes
   pub content : contentOf (0xFF ∷ []) ≡ true ∷ unflipped
@@ -110,20 +80,17 @@ unfolding inRoom bitsOf valuesOf framesOf story checkBytes fromLow stuff textBit
 examples = record {
   listens = record { mode = refl; on = refl; search = refl; empty = refl; three = refl; start = in-hunt refl };
   room = refl;
-  bits = refl;
-  values = refl;
   check = refl;
   all-read = refl;
   three = refl;
+  fourth = refl;
+  touched = refl;
   named-room = refl;
   named-bits = refl;
   no-latch = (refl, refl);
   last-waits = refl;
   rr1-named = refl;
   two-read = refl;
-  mark = refl;
-  fourth = refl;
-  touched = refl;
   twice-room = refl;
   twice-bits = refl;
   content = refl;
@@ -134,7 +101,7 @@ examples = record {
 -- the theorems speak of these stories
 
 pub noisy-received : Received A begin noisy (withCheck (0xFF ∷ [])) (ended false (withCheck (0xFF ∷ [])))
-noisy-received = demand2-run A begin noisy (0xFF ∷ []) (examples .listens) (omega arith) (more (omega arith) none) (examples .room) (examples .bits)
+noisy-received = demand2-run A begin noisy (0xFF ∷ []) (examples .listens) (omega arith) (more (omega arith) none) (examples .room) (told .noisy-bits)
 
 noisy-listens : Listening (sideOf A (after begin noisy))
 noisy-listens =
@@ -145,7 +112,7 @@ named-moment =
     always2 A begin named looks (0xFF ∷ []) (examples .listens) (omega arith) (more (omega arith) none) (fed A begin (named ++ looks) (examples .named-room))
     (examples .named-bits)
 
-named-mark : step (after begin named) (ControlRead 0) .answer ≡ Gave goodEnd
+named-mark : happens (after begin named) (ControlRead 0) .answer ≡ Gave goodEnd
 named-mark =
     mark2 A begin named looks (0xFF ∷ []) (examples .listens) (omega arith) (more (omega arith) none) (fed A begin (named ++ looks) (examples .named-room))
     (examples .named-bits) (examples .no-latch .0) (examples .no-latch .1) (examples .last-waits) (examples .rr1-named)

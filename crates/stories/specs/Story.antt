@@ -4,10 +4,8 @@ use mathlib.Core.List.{List, [], _∷_, _++_}
 use Prim.Native.Nat.{ℕ}
 use Rattle.channel.specs.declared.Channel.{Channel}
 use Rattle.chip.specs.declared.Chip.{Chip}
-use Rattle.chip.specs.Chip.{hardReset}
+use Rattle.chip.specs.declared.Outcome.{Outcome}
 use Rattle.chip.specs.Event.{Event, step}
-use Rattle.chip.specs.Sound.{SoundChip}
-use Rattle.chip.specs.Laws.Sound.{hard-reset-sound, step-sound}
 
 -- 01, The part we model: "two channels, A (0) and B (1)"
 pub data Which : Type 0 where
@@ -22,21 +20,17 @@ abbrev pub chan : Which → Chip → Channel
 chan A c = c .a
 chan B c = c .b
 
+-- What an event does to a chip. Stories, and with them the theorems of the demands, speak of the chip by this name alone,
+-- so that a wrong chip can be put in its place
+abbrev pub happens : Chip → Event → Outcome
+happens c e = step c e
+
 -- the chip behind a story
 unfoldable pub after : Chip → List Event → Chip
 after c [] = c
-after c (e ∷ st) = after (step c e .chip) st
+after c (e ∷ st) = after (happens c e .chip) st
 
 pub after-join : (c : Chip) (xs ys : List Event) → after c (xs ++ ys) ≡ after (after c xs) ys
 unfolding after
 after-join c [] ys = refl
-after-join c (x ∷ xs) ys = after-join (step c x .chip) xs ys
-
--- what only chips with a history have, a story keeps, and every chip behind a hard reset has
-pub after-sound : (c : Chip) (st : List Event) → SoundChip c → SoundChip (after c st)
-unfolding after
-after-sound c [] h = h
-after-sound c (e ∷ st) h = after-sound (step c e .chip) st (step-sound c e h)
-
-pub reset-sound : (st : List Event) → SoundChip (after hardReset st)
-reset-sound st = after-sound hardReset st hard-reset-sound
+after-join c (x ∷ xs) ys = after-join (happens c x .chip) xs ys
