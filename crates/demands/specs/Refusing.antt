@@ -4,10 +4,9 @@
 -- function has a `requires`. Assumes nothing.
 use mathlib.Core.Path.{_≡_, refl}
 use mathlib.Core.Logic.{_≢_}
-use mathlib.Core.Bool.{Bool, true, false, not, _||_}
+use mathlib.Core.Bool.{not, _||_}
 use mathlib.Core.List.{List, [], _∷_}
-use Prim.Native.Nat.{ℕ, _+_, _-_}
-use native.Mathlib.Omega.{arith}
+use Prim.Native.Nat.{ℕ, _-_}
 use lib.Dec.{eqb, ltb, leb}
 use lib.ListN.{length, getD}
 use Rattle.common.specs.Choice.{if_then_else_}
@@ -21,17 +20,18 @@ use Rattle.notes.specs.declared.Head.{Head}
 use Rattle.notes.specs.declared.Head.the-variants.{End, Note, Bad}
 use Rattle.notes.specs.NoteList.{lengthBytes, lengthAt, headOf, Reading, whole, refuses, restFrom, firstNote, version, longestList, readList}
 use Rattle.chip.specs.declared.Chip.{Chip}
-use Rattle.chip.specs.Event.{Event, step}
+use Rattle.chip.specs.Event.{Event}
 use Rattle.chip.specs.Refusals.{Row, rowsOf, firstRow}
 use Rattle.chip.specs.Laws.Refusals.{refused-by-the-table, refused-changes-nothing}
 use Rattle.channel.specs.Answer.{answerNumber}
+use Rattle.stories.specs.Story.{happens}
 
 -- The chip's calls: rows 1, 2, 3, and 4 for acknowledge; which rows an event knows is `rowsOf`
 
-pub chip-refused : (c : Chip) (e : Event) → answerNumber (step c e .answer) ≡ firstRow (rowsOf c e)
+pub chip-refused : (c : Chip) (e : Event) → answerNumber (happens c e .answer) ≡ firstRow (rowsOf c e)
 chip-refused = refused-by-the-table
 
-pub chip-kept : (c : Chip) (e : Event) → answerNumber (step c e .answer) ≢ 0 → step c e .chip ≡ c
+pub chip-kept : (c : Chip) (e : Event) → answerNumber (happens c e .answer) ≢ 0 → happens c e .chip ≡ c
 chip-kept = refused-changes-nothing
 
 -- A line: "6, then 8"

@@ -10,11 +10,12 @@ use Rattle.line.specs.Laws.Bits.{Below}
 use Rattle.chip.specs.declared.Chip.{Chip}
 use Rattle.chip.specs.Event.{Event}
 use Rattle.come.specs.Start.{flagHead}
-use Rattle.demands.specs.Story.{Which}
-use Rattle.demands.specs.Receiving.Statement.{Listening, Fed, bitsOf, Received, withCheck, ended}
+use Rattle.stories.specs.Story.{Which}
+use Rattle.stories.specs.Sent.{lineOf, ticks}
+use Rattle.stories.specs.Received.{bitsOf}
+use Rattle.demands.specs.Receiving.Statement.{Listening, Fed, Received, withCheck, ended}
 use Rattle.demands.specs.Receiving.Statement as receiving
 use Rattle.demands.specs.Receiving.Demand.{demand2}
-use Rattle.demands.specs.Sending.Side.{lineOf, ticks}
 use Rattle.demands.specs.Sending.Statement.{Start, InTime}
 use Rattle.demands.specs.Sending.Frame.{demand3}
 

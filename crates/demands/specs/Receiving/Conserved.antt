@@ -16,9 +16,10 @@ use Rattle.receiver.specs.Receiver.{hear}
 use Rattle.receiver.specs.Laws.{hear-plain}
 use Rattle.channel.specs.Events.{queued}
 use Rattle.chip.specs.declared.Chip.{Chip}
-use Rattle.chip.specs.Event.{Event, step}
-use Rattle.demands.specs.Story.{Which, chan, after}
-use Rattle.demands.specs.Receiving.Statement.{Side, side, sideOf, Role, bitIn, bitsOf, roomFor, Fed, over, hears, reads, still, isRead, taking, tookOf}
+use Rattle.chip.specs.Event.{Event}
+use Rattle.stories.specs.Story.{Which, chan, happens, after}
+use Rattle.stories.specs.Received.{Role, bitIn, bitsOf, isRead, taking, tookOf}
+use Rattle.demands.specs.Receiving.Statement.{Side, side, sideOf, roomFor, Fed, over, hears, reads, still}
 use Rattle.demands.specs.Receiving.Heard.{handed, before, before-join, hearAll}
 use Rattle.demands.specs.Receiving.Side.{heardSide, readSide, Follows, follows}
 
@@ -54,14 +55,14 @@ conserved w (still {c = c} {e = x} {st = st} r k i) s q g es d e h =
       whole = λ rest.
           ap (λ (r : Role). before es (hearAll g s ((bitIn r ++ bitsOf w st) ++ rest))) r
           ∙ m .whole rest
-          ∙ ap (λ (r : Role). before ((entryIf (taking w c r) (oldest (chan w c .queue)) ++ tookOf w (step c x .chip) st) ++ m .waiting) (hearAll g (m .last) rest)) (sym r);
+          ∙ ap (λ (r : Role). before ((entryIf (taking w c r) (oldest (chan w c .queue)) ++ tookOf w (happens c x .chip) st) ++ m .waiting) (hearAll g (m .last) rest)) (sym r);
     }
 conserved w (reads {c = c} {e = x} {st = st} r i) s q g es d e h =
     let t = read-holds h in
-    let f : sideOf w (step c x .chip) ≡ readSide (sideOf w c) = subst (Follows w c (step c x .chip)) r (follows w c x) in
+    let f : sideOf w (happens c x .chip) ≡ readSide (sideOf w c) = subst (Follows w c (happens c x .chip)) r (follows w c x) in
     let m = conserved w i s (taken q) g (t .rest) d (f ∙ ap readSide e) (t .holds) in
     let n = entryIf (waits q) (oldest q) in
-    let more = tookOf w (step c x .chip) st in
+    let more = tookOf w (happens c x .chip) st in
     record {
       last = m .last;
       queue = m .queue;
@@ -80,7 +81,7 @@ conserved w (reads {c = c} {e = x} {st = st} r i) s q g es d e h =
     }
 conserved w (hears {c = c} {e = x} {st = st} {b = b} r k i) s q g es d e h =
     let H = hear g s b in
-    let f : sideOf w (step c x .chip) ≡ heardSide b (sideOf w c) = subst (Follows w c (step c x .chip)) r (follows w c x) in
+    let f : sideOf w (happens c x .chip) ≡ heardSide b (sideOf w c) = subst (Follows w c (happens c x .chip)) r (follows w c x) in
     let space : roomFor q H ≡ true = ap (λ (y : Side). roomFor (y .queue) (hear (y .settings) (y .receiver) b)) (sym e) ∙ k in
     let m = conserved w i (H .receiver) (queued q H) g (es ++ handed H) d (f ∙ ap (heardSide b) e) (queue-takes H h space (hear-plain g d s b)) in
     record {
@@ -93,5 +94,5 @@ conserved w (hears {c = c} {e = x} {st = st} {b = b} r k i) s q g es d e h =
           ap (λ (r : Role). before es (hearAll g s ((bitIn r ++ bitsOf w st) ++ rest))) r
           ∙ before-join es (handed H) (hearAll g (H .receiver) (bitsOf w st ++ rest))
           ∙ m .whole rest
-          ∙ ap (λ (r : Role). before ((entryIf (taking w c r) (oldest (chan w c .queue)) ++ tookOf w (step c x .chip) st) ++ m .waiting) (hearAll g (m .last) rest)) (sym r);
+          ∙ ap (λ (r : Role). before ((entryIf (taking w c r) (oldest (chan w c .queue)) ++ tookOf w (happens c x .chip) st) ++ m .waiting) (hearAll g (m .last) rest)) (sym r);
     }

@@ -26,8 +26,9 @@ use Rattle.receiver.specs.Sdlc.{counted, lastBit, spilled, oldestBit, wrong, ac
 use Rattle.receiver.specs.Receiver.{hearIn, hear}
 use Rattle.chip.specs.declared.Chip.{Chip}
 use Rattle.chip.specs.Event.{Event}
-use Rattle.demands.specs.Story.{Which, chan, after}
-use Rattle.demands.specs.Receiving.Statement.{Side, sideOf, bitsOf, Fed, tookOf}
+use Rattle.stories.specs.Story.{Which, chan, after}
+use Rattle.stories.specs.Received.{bitsOf, tookOf}
+use Rattle.demands.specs.Receiving.Statement.{Side, sideOf, Fed}
 use Rattle.demands.specs.Receiving.Tools.{void, both-left, both-right, not-true}
 use Rattle.demands.specs.Receiving.Heard.{handed, Final, hearAll, hear-join}
 use Rattle.demands.specs.Receiving.Conserved.{conserved}

@@ -15,7 +15,7 @@ use Rattle.queue.specs.declared.Entry.{Entry}
 use Rattle.queue.specs.declared.Queue.{Queue}
 use Rattle.queue.specs.Entry.{plainEntry}
 use Rattle.queue.specs.Queue.{room, waits, rr1, rr1Of}
-use Rattle.queue.specs.Laws.{Holds, h0, three-empty, latches-holds, rr1-holds, none-waits}
+use Rattle.queue.specs.Laws.{Holds, h0, h1, h2, h3, three-empty, latches-holds, rr1-holds, none-waits}
 use Rattle.receiver.specs.declared.Receiving.{Receiving}
 use Rattle.receiver.specs.declared.Receiver.{Receiver}
 use Rattle.receiver.specs.Sdlc.{past}
@@ -27,9 +27,10 @@ use Rattle.channel.specs.Control.{rr1Now, readRegister}
 use Rattle.chip.specs.declared.Chip.{Chip}
 use Rattle.chip.specs.Interrupts.{anyPending, rr2}
 use Rattle.chip.specs.Chip.{controlReadCall}
-use Rattle.chip.specs.Event.{Event, ControlRead, step}
-use Rattle.demands.specs.Story.{Which, A, B, number, chan, after}
-use Rattle.demands.specs.Receiving.Statement.{Side, sideOf, past-flag, Listening, role, bitIn, bitsOf, Fed, over, hears, reads, still, valuesOf, tookOf, bytesOf, withCheck, ended, Received, Demand2, Moment, Always2, goodEnd, noEnd, Mark2, Notes2, allEnded}
+use Rattle.chip.specs.Event.{Event, ControlRead}
+use Rattle.stories.specs.Story.{Which, A, B, number, chan, happens, after}
+use Rattle.stories.specs.Received.{role, bitIn, bitsOf, valuesOf, tookOf, bytesOf, goodEnd, noEnd}
+use Rattle.demands.specs.Receiving.Statement.{Side, sideOf, past-flag, Listening, Fed, over, hears, reads, still, withCheck, ended, Received, Demand2, Moment, Always2, Mark2, Notes2, allEnded}
 use Rattle.demands.specs.Receiving.Bytes.{withCheck-length}
 use Rattle.demands.specs.Receiving.Heard.{Final, final, before, hearAll}
 use Rattle.demands.specs.Receiving.Frame.{listening, frame-heard, notes-heard}
@@ -100,21 +101,22 @@ demand2 w c st note l n b f e =
     received-bytes w c st false (withCheck note) l f (ap (hearAll (listening g) s) e ∙ frame-heard g s note n (l .start) b)
 
 -- once all is read the channel listens as it did: the next frame may follow
-holds-none : {p o : Bool} {q : Queue} → Holds p o q [] → (q .count ≡ 0) × (length (q .entries) ≡ room)
-holds-none h0 = (refl, refl)
+holds-three : {p o : Bool} {q : Queue} {es : List Entry} → Holds p o q es → length (q .entries) ≡ room
+holds-three h0 = refl
+holds-three (h1 a) = refl
+holds-three (h2 a b) = refl
+holds-three (h3 a b c) = refl
 
-pub listens-again : (w : Which) (c : Chip) (st : List Event) (bytes : List ℕ) (es : List Entry) → Listening (sideOf w c) → (r : Received w c st bytes es) → r .waiting ≡ []
-    → Listening (sideOf w (after c st))
-listens-again w c st bytes es l r n =
-    let h = holds-none (subst (Holds (chan w c .queue .parity) (chan w c .queue .overrun) (chan w (after c st) .queue)) n (r .holds)) in
-    record {
-      mode = ap (λ (g : Receiving). g .mode) (r .stays) ∙ l .mode;
-      on = ap (λ (g : Receiving). g .on) (r .stays) ∙ l .on;
-      search = ap (λ (g : Receiving). g .search) (r .stays) ∙ l .search;
-      empty = h .0;
-      three = h .1;
-      start = past-flag (ap (λ (s : Receiver). s .content) (r .ready));
-    }
+pub listens-again : (w : Which) (c : Chip) (st : List Event) (bytes : List ℕ) (es : List Entry) → Listening (sideOf w c) → Received w c st bytes es
+    → chan w (after c st) .queue .count ≡ 0 → Listening (sideOf w (after c st))
+listens-again w c st bytes es l r n = record {
+  mode = ap (λ (g : Receiving). g .mode) (r .stays) ∙ l .mode;
+  on = ap (λ (g : Receiving). g .on) (r .stays) ∙ l .on;
+  search = ap (λ (g : Receiving). g .search) (r .stays) ∙ l .search;
+  empty = n;
+  three = holds-three (r .holds);
+  start = past-flag (ap (λ (s : Receiver). s .content) (r .ready));
+}
 
 -- several notes
 pub notes2 : Notes2
@@ -206,7 +208,7 @@ unfolding readRegister rr1Now receivingOf sendingOf
 rr1-in c pending vector p d =
     rw p (ap (λ (k : Mode). rr1 (c .queue) (inSdlc k || (not (underWay (c .sender .unit)) && not (c .sender .core .full)))) d)
 
-rr1-read : (w : Which) (c : Chip) → chan w c .pointer ≡ 1 → sideOf w c .settings .mode ≡ Sdlc → step c (ControlRead (number w)) .answer ≡ Gave (rr1 (chan w c .queue) true)
+rr1-read : (w : Which) (c : Chip) → chan w c .pointer ≡ 1 → sideOf w c .settings .mode ≡ Sdlc → happens c (ControlRead (number w)) .answer ≡ Gave (rr1 (chan w c .queue) true)
 unfolding controlReadCall
 rr1-read A c p d = ap Gave (rr1-in (c .a) (anyPending c) 0 p d)
 rr1-read B c p d = ap Gave (rr1-in (c .b) false (rr2 c) p d)

@@ -12,8 +12,9 @@ use Rattle.line.specs.Laws.Bits.{Below}
 use Rattle.line.specs.Laws.Frame.{content-length, content-good}
 use Rattle.chip.specs.declared.Chip.{Chip}
 use Rattle.chip.specs.Event.{Event}
-use Rattle.demands.specs.Story.{Which, chan}
-use Rattle.demands.specs.Receiving.Statement.{sideOf, Listening, bitsOf, Fed, ended, Received, framed, Flipped2}
+use Rattle.stories.specs.Story.{Which, chan}
+use Rattle.stories.specs.Received.{bitsOf}
+use Rattle.demands.specs.Receiving.Statement.{sideOf, Listening, Fed, ended, Received, framed, Flipped2}
 use Rattle.demands.specs.Receiving.Bytes.{of-bits, flip-found}
 use Rattle.demands.specs.Receiving.Heard.{hearAll}
 use Rattle.demands.specs.Receiving.Frame.{listening, badIf, bytes-heard}

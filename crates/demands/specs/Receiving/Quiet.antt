@@ -20,9 +20,10 @@ use Rattle.chip.specs.declared.Outcome.{Outcome}
 use Rattle.chip.specs.declared.Acknowledged.{Acknowledged}
 use Rattle.chip.specs.Interrupts.{none, serviceLevel, pendingLevel, serving, atLevel, mayTake, acknowledge, reti}
 use Rattle.chip.specs.Chip.{byChannel, endsService, controlWriteA, controlWrite, controlReadCall, dataWriteCall, dataReadCall, transmitCall, onLevel, receiveCall, linesCall}
-use Rattle.chip.specs.Event.{Event, HardReset, ControlWrite, ControlRead, DataWrite, DataRead, Transmit, Receive, SetLines, Acknowledge, Reti, step}
-use Rattle.demands.specs.Story.{Which, A, B, chan}
-use Rattle.demands.specs.Receiving.Statement.{sideIn, sideOf, here}
+use Rattle.chip.specs.Event.{Event, HardReset, ControlWrite, ControlRead, DataWrite, DataRead, Transmit, Receive, SetLines, Acknowledge, Reti}
+use Rattle.stories.specs.Story.{Which, A, B, chan, happens}
+use Rattle.stories.specs.Received.{here}
+use Rattle.demands.specs.Receiving.Statement.{sideIn, sideOf}
 use Rattle.demands.specs.Receiving.Tools.{void, both-left, both-right, not-true, or-right}
 
 -- The test
@@ -247,7 +248,7 @@ acknowledge-kept : (w : Which) (c : Chip) → Kept w c (acknowledge c .chip)
 unfolding acknowledge
 acknowledge-kept w c = if-elim (λ (x : Acknowledged). Kept w c (x .chip)) (mayTake c) (level-served w c (pendingLevel c) true .kept) refl
 
-pub quiet-keeps : (w : Which) (c : Chip) (e : Event) → quiet w c e ≡ true → sideOf w (step c e .chip) ≡ sideOf w c
+pub quiet-keeps : (w : Which) (c : Chip) (e : Event) → quiet w c e ≡ true → sideOf w (happens c e .chip) ≡ sideOf w c
 quiet-keeps w c HardReset q = void q
 quiet-keeps w c (ControlWrite ch v) q = write-kept w c ch v q
 quiet-keeps w c (ControlRead ch) q = read-kept w c ch

@@ -7,9 +7,10 @@ use lib.ListN.{length}
 use Rattle.line.specs.Frame.{frame}
 use Rattle.line.specs.Laws.Bits.{Below}
 use Rattle.chip.specs.declared.Chip.{Chip}
-use Rattle.chip.specs.Event.{Event, step}
-use Rattle.demands.specs.Story.{Which}
-use Rattle.demands.specs.Receiving.Statement.{sideOf, Listening, Role, Hears, Reads, Else, role, bitsOf, roomy, Fed, over, hears, reads, still, withCheck, ended, Received}
+use Rattle.chip.specs.Event.{Event}
+use Rattle.stories.specs.Story.{Which, happens}
+use Rattle.stories.specs.Received.{Role, Hears, Reads, Else, role, bitsOf}
+use Rattle.demands.specs.Receiving.Statement.{sideOf, Listening, roomy, Fed, over, hears, reads, still, withCheck, ended, Received}
 use Rattle.demands.specs.Receiving.Tools.{both-left, both-right}
 use Rattle.demands.specs.Receiving.Demand.{demand2}
 use Rattle.demands.specs.Receiving.Quiet.{quiet, quiet-keeps}
@@ -22,9 +23,9 @@ allowed w c e Else = quiet w c e
 -- ticks that find room, reads anywhere, and else only what is quiet
 unfoldable pub inRoom : Which → Chip → List Event → Bool
 inRoom w c [] = true
-inRoom w c (e ∷ st) = allowed w c e (role w e) && inRoom w (step c e .chip) st
+inRoom w c (e ∷ st) = allowed w c e (role w e) && inRoom w (happens c e .chip) st
 
-next-fed : (w : Which) (c : Chip) (e : Event) (st : List Event) (r : Role) → role w e ≡ r → allowed w c e r ≡ true → Fed w (step c e .chip) st → Fed w c (e ∷ st)
+next-fed : (w : Which) (c : Chip) (e : Event) (st : List Event) (r : Role) → role w e ≡ r → allowed w c e r ≡ true → Fed w (happens c e .chip) st → Fed w c (e ∷ st)
 next-fed w c e st (Hears b) p a f = hears p a f
 next-fed w c e st Reads p a f = reads p f
 next-fed w c e st Else p a f = still p (quiet-keeps w c e a) f
@@ -34,8 +35,8 @@ unfolding inRoom
 fed w c [] t = over
 fed w c (e ∷ st) t =
     let a = allowed w c e (role w e) in
-    let n = inRoom w (step c e .chip) st in
-    next-fed w c e st (role w e) refl (both-left a n t) (fed w (step c e .chip) st (both-right a n t))
+    let n = inRoom w (happens c e .chip) st in
+    next-fed w c e st (role w e) refl (both-left a n t) (fed w (happens c e .chip) st (both-right a n t))
 
 -- demand 2 with the test
 pub demand2-run : (w : Which) (c : Chip) (st : List Event) (note : List ℕ) → Listening (sideOf w c) → 1 ≤ length note → Below 256 note → inRoom w c st ≡ true

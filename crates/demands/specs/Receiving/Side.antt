@@ -23,9 +23,10 @@ use Rattle.chip.specs.declared.Chip.{Chip}
 use Rattle.chip.specs.declared.Outcome.{Outcome}
 use Rattle.chip.specs.Interrupts.{chip}
 use Rattle.chip.specs.Chip.{outcome, refused, takenValue, onLevel, dataReadCall, receiveCall}
-use Rattle.chip.specs.Event.{Event, HardReset, ControlWrite, ControlRead, DataWrite, DataRead, Transmit, Receive, SetLines, Acknowledge, Reti, step}
-use Rattle.demands.specs.Story.{Which, A, B, number, chan}
-use Rattle.demands.specs.Receiving.Statement.{Side, side, sideIn, sideOf, Role, Hears, Reads, Else, role, taking, valueIf, valuesOf, tookOf, bytesOf}
+use Rattle.chip.specs.Event.{Event, HardReset, ControlWrite, ControlRead, DataWrite, DataRead, Transmit, Receive, SetLines, Acknowledge, Reti}
+use Rattle.stories.specs.Story.{Which, A, B, number, chan, happens}
+use Rattle.stories.specs.Received.{Role, Hears, Reads, Else, role, taking, valueIf, valuesOf, tookOf, bytesOf}
+use Rattle.demands.specs.Receiving.Statement.{Side, side, sideIn, sideOf}
 use Rattle.demands.specs.Receiving.Tools.{void}
 
 abbrev pub heardSide : Bool → Side → Side
@@ -40,7 +41,7 @@ Follows w c d (Hears b) = sideOf w d ≡ heardSide b (sideOf w c)
 Follows w c d Reads = sideOf w d ≡ readSide (sideOf w c)
 Follows w c d Else = Unit
 
-tick-follows : (w : Which) (c : Chip) (bit : ℕ) → Follows w c (step c (Receive (number w) bit) .chip) (if leb 2 bit then Else else Hears (onLevel bit))
+tick-follows : (w : Which) (c : Chip) (bit : ℕ) → Follows w c (happens c (Receive (number w) bit) .chip) (if leb 2 bit then Else else Hears (onLevel bit))
 unfolding receiveCall receiveTick settled
 tick-follows A c bit =
     elim (leb 2 bit) as (λ t. Follows A c ((if t then refused c refusal.Level else outcome Done (chip (receiveTick (c .a) (onLevel bit)) (c .b))) .chip)
@@ -60,21 +61,21 @@ read-in c =
     by-test (λ (d : read.DataRead). sideIn (d .channel) ≡ readSide (sideIn c)) (waits (c .queue)) (λ e. refl)
     (λ e. ap (λ (q : Queue). side (c .receiver) q (receivingOf (c .registers) (c .lines))) (sym (taken-none (c .queue) e)))
 
-read-follows : (w : Which) (c : Chip) → Follows w c (step c (DataRead (number w)) .chip) Reads
+read-follows : (w : Which) (c : Chip) → Follows w c (happens c (DataRead (number w)) .chip) Reads
 unfolding dataReadCall
 read-follows A c = read-in (c .a)
 read-follows B c = read-in (c .b)
 
-pub follows : (w : Which) (c : Chip) (e : Event) → Follows w c (step c e .chip) (role w e)
+pub follows : (w : Which) (c : Chip) (e : Event) → Follows w c (happens c e .chip) (role w e)
 follows w c HardReset = tt
 follows w c (ControlWrite ch v) = tt
 follows w c (ControlRead ch) = tt
 follows w c (DataWrite ch v) = tt
 follows w c (DataRead ch) =
-    eqb-elim (λ t. Follows w c (step c (DataRead ch) .chip) (if t then Reads else Else)) ch (number w) (λ e. rw e (read-follows w c)) (λ n. tt)
+    eqb-elim (λ t. Follows w c (happens c (DataRead ch) .chip) (if t then Reads else Else)) ch (number w) (λ e. rw e (read-follows w c)) (λ n. tt)
 follows w c (Transmit ch) = tt
 follows w c (Receive ch bit) =
-    eqb-elim (λ t. Follows w c (step c (Receive ch bit) .chip) (if t then (if leb 2 bit then Else else Hears (onLevel bit)) else Else)) ch (number w)
+    eqb-elim (λ t. Follows w c (happens c (Receive ch bit) .chip) (if t then (if leb 2 bit then Else else Hears (onLevel bit)) else Else)) ch (number w)
     (λ e. rw e (tick-follows w c bit)) (λ n. tt)
 follows w c (SetLines ch dcd cts) = tt
 follows w c Acknowledge = tt
@@ -98,21 +99,21 @@ read-gives c =
     let none : read.DataRead = record { taken = Nothing; channel = c } in
     elim (waits q) as (λ t. bytesOf (entryIf t (oldest q)) ≡ valueIf t (Gave (takenValue ((if t then took else none) .taken)))) [ true ↦ refl | false ↦ refl ]
 
-read-answers : (w : Which) (c : Chip) → Answers w c (step c (DataRead (number w))) Reads
+read-answers : (w : Which) (c : Chip) → Answers w c (happens c (DataRead (number w))) Reads
 unfolding dataReadCall
 read-answers A c = read-gives (c .a)
 read-answers B c = read-gives (c .b)
 
-answers : (w : Which) (c : Chip) (e : Event) → Answers w c (step c e) (role w e)
+answers : (w : Which) (c : Chip) (e : Event) → Answers w c (happens c e) (role w e)
 unfolding bytesOf
 answers w c HardReset = refl
 answers w c (ControlWrite ch v) = refl
 answers w c (ControlRead ch) = refl
 answers w c (DataWrite ch v) = refl
 answers w c (DataRead ch) =
-    eqb-elim (λ t. Answers w c (step c (DataRead ch)) (if t then Reads else Else)) ch (number w) (λ e. rw e (read-answers w c)) (λ n. refl)
+    eqb-elim (λ t. Answers w c (happens c (DataRead ch)) (if t then Reads else Else)) ch (number w) (λ e. rw e (read-answers w c)) (λ n. refl)
 answers w c (Transmit ch) = refl
-answers w c (Receive ch bit) = if-elim (Answers w c (step c (Receive ch bit))) (eqb ch (number w)) (if-elim (Answers w c (step c (Receive ch bit))) (leb 2 bit) refl refl) refl
+answers w c (Receive ch bit) = if-elim (Answers w c (happens c (Receive ch bit))) (eqb ch (number w)) (if-elim (Answers w c (happens c (Receive ch bit))) (leb 2 bit) refl refl) refl
 answers w c (SetLines ch dcd cts) = refl
 answers w c Acknowledge = refl
 answers w c Reti = refl
@@ -121,5 +122,5 @@ pub values-are : (w : Which) (c : Chip) (st : List Event) → bytesOf (tookOf w 
 unfolding tookOf valuesOf
 values-are w c [] = unfold bytesOf in refl
 values-are w c (e ∷ st) =
-    bytes-append (entryIf (taking w c (role w e)) (oldest (chan w c .queue))) (tookOf w (step c e .chip) st)
-    ∙ ap₂ (λ (x y : List ℕ). x ++ y) (answers w c e) (values-are w (step c e .chip) st)
+    bytes-append (entryIf (taking w c (role w e)) (oldest (chan w c .queue))) (tookOf w (happens c e .chip) st)
+    ∙ ap₂ (λ (x y : List ℕ). x ++ y) (answers w c e) (values-are w (happens c e .chip) st)

@@ -2,10 +2,10 @@
 -- line, read before a fourth character waits and else untouched, gives back its bytes, its check and a good mark."
 -- Said of either channel of any chip, over stories in which everything else may happen too. Assumes nothing.
 use mathlib.Core.Path.{_≡_}
-use mathlib.Core.Bool.{Bool, true, false, not, _&&_, _||_}
+use mathlib.Core.Bool.{Bool, true, false, not, _||_}
 use mathlib.Core.List.{List, [], _∷_, _++_}
 use Prim.Native.Nat.{ℕ, _+_, _≤_}
-use lib.Dec.{eqb, ltb, leb}
+use lib.Dec.{eqb, ltb}
 use lib.ListN.{length, take, drop}
 use Rattle.common.specs.Choice.{if_then_else_}
 use Rattle.common.specs.declared.Mode.the-variants.{Sdlc}
@@ -16,21 +16,20 @@ use Rattle.line.specs.Laws.Bits.{fromLow, Below}
 use Rattle.queue.specs.declared.Entry.{Entry}
 use Rattle.queue.specs.declared.Queue.{Queue}
 use Rattle.queue.specs.Entry.{plainEntry}
-use Rattle.queue.specs.Queue.{room, oldest, waits}
-use Rattle.queue.specs.Laws.{Holds, entryIf}
+use Rattle.queue.specs.Queue.{room, waits}
+use Rattle.queue.specs.Laws.{Holds}
 use Rattle.receiver.specs.declared.Receiving.{Receiving}
 use Rattle.receiver.specs.declared.Receiver.{Receiver}
 use Rattle.receiver.specs.declared.Heard.{Heard}
 use Rattle.receiver.specs.Sdlc.{past}
 use Rattle.receiver.specs.Receiver.{hear}
 use Rattle.settings.specs.Settings.{receivingOf}
-use Rattle.channel.specs.declared.Answer.{Answer}
-use Rattle.channel.specs.declared.Answer.the-variants.{Done, Gave, Refused}
+use Rattle.channel.specs.declared.Answer.the-variants.{Gave}
 use Rattle.channel.specs.declared.Channel.{Channel}
 use Rattle.chip.specs.declared.Chip.{Chip}
-use Rattle.chip.specs.Chip.{onLevel}
-use Rattle.chip.specs.Event.{Event, HardReset, ControlWrite, ControlRead, DataWrite, DataRead, Transmit, Receive, SetLines, Acknowledge, Reti, step}
-use Rattle.demands.specs.Story.{Which, number, chan, after}
+use Rattle.chip.specs.Event.{Event, ControlRead}
+use Rattle.stories.specs.Story.{Which, number, chan, happens, after}
+use Rattle.stories.specs.Received.{Hears, Reads, Else, role, bitsOf, valuesOf, tookOf, bytesOf, goodEnd, noEnd}
 
 -- The receiving side of a channel: receiver, queue, and what registers and lines say to the receiver
 
@@ -54,7 +53,7 @@ pub data Start (s : Receiver) : Type 0 where
   in-hunt : s .content .hunt ≡ true → Start s
   past-flag : s .content ≡ past s .content → Start s
 
--- the queue's three places are a fact of every chip with a history
+-- the queue's three places are a fact of every chip with a history: `queue-three` in Sound
 pub record Listening (x : Side) : Type 0 where
   pub mode : x .settings .mode ≡ Sdlc
   pub on : x .settings .on ≡ true
@@ -62,39 +61,6 @@ pub record Listening (x : Side) : Type 0 where
   pub empty : x .queue .count ≡ 0
   pub three : length (x .queue .entries) ≡ room
   pub start : Start (x .receiver)
-
--- What an event is to that side: a bit heard, a read, or anything else; what is refused is neither of the first two
-
-pub data Role : Type 0 where
-  Hears : Bool → Role
-  Reads : Role
-  Else : Role
-
-abbrev pub here : Which → ℕ → Bool
-here w ch = eqb ch (number w)
-
-abbrev pub role : Which → Event → Role
-role w HardReset = Else
-role w (ControlWrite ch v) = Else
-role w (ControlRead ch) = Else
-role w (DataWrite ch v) = Else
-role w (DataRead ch) = if here w ch then Reads else Else
-role w (Transmit ch) = Else
-role w (Receive ch bit) = if here w ch then (if leb 2 bit then Else else Hears (onLevel bit)) else Else
-role w (SetLines ch dcd cts) = Else
-role w Acknowledge = Else
-role w Reti = Else
-
--- "fed": the bits that a story's receive ticks bring
-
-abbrev pub bitIn : Role → List Bool
-bitIn (Hears b) = b ∷ []
-bitIn Reads = []
-bitIn Else = []
-
-unfoldable pub bitsOf : Which → List Event → List Bool
-bitsOf w [] = []
-bitsOf w (e ∷ st) = bitIn (role w e) ++ bitsOf w st
 
 -- "stays on .. read before a fourth character waits and else untouched": a tick that hands a character over finds room, reads come as they
 -- like, and what else happens leaves the side as it was
@@ -107,37 +73,9 @@ roomy x b = roomFor (x .queue) (hear (x .settings) (x .receiver) b)
 
 pub data Fed (w : Which) : Chip → List Event → Type 0 where
   over : {c : Chip} → Fed w c []
-  hears : {c : Chip} {e : Event} {st : List Event} {b : Bool} → role w e ≡ Hears b → roomy (sideOf w c) b ≡ true → Fed w (step c e .chip) st → Fed w c (e ∷ st)
-  reads : {c : Chip} {e : Event} {st : List Event} → role w e ≡ Reads → Fed w (step c e .chip) st → Fed w c (e ∷ st)
-  still : {c : Chip} {e : Event} {st : List Event} → role w e ≡ Else → sideOf w (step c e .chip) ≡ sideOf w c → Fed w (step c e .chip) st → Fed w c (e ∷ st)
-
--- "gives back": what the reads answered while a character waited, and the entries that they took
-
-abbrev pub isRead : Role → Bool
-isRead (Hears b) = false
-isRead Reads = true
-isRead Else = false
-
-abbrev pub taking : Which → Chip → Role → Bool
-taking w c r = isRead r && waits (chan w c .queue)
-
-abbrev pub valueIf : Bool → Answer → List ℕ
-valueIf true Done = []
-valueIf true (Gave v) = v ∷ []
-valueIf true (Refused k) = []
-valueIf false a = []
-
-unfoldable pub valuesOf : Which → Chip → List Event → List ℕ
-valuesOf w c [] = []
-valuesOf w c (e ∷ st) = valueIf (taking w c (role w e)) (step c e .answer) ++ valuesOf w (step c e .chip) st
-
-unfoldable pub tookOf : Which → Chip → List Event → List Entry
-tookOf w c [] = []
-tookOf w c (e ∷ st) = entryIf (taking w c (role w e)) (oldest (chan w c .queue)) ++ tookOf w (step c e .chip) st
-
-unfoldable pub bytesOf : List Entry → List ℕ
-bytesOf [] = []
-bytesOf (e ∷ es) = e .byte ∷ bytesOf es
+  hears : {c : Chip} {e : Event} {st : List Event} {b : Bool} → role w e ≡ Hears b → roomy (sideOf w c) b ≡ true → Fed w (happens c e .chip) st → Fed w c (e ∷ st)
+  reads : {c : Chip} {e : Event} {st : List Event} → role w e ≡ Reads → Fed w (happens c e .chip) st → Fed w c (e ∷ st)
+  still : {c : Chip} {e : Event} {st : List Event} → role w e ≡ Else → sideOf w (happens c e .chip) ≡ sideOf w c → Fed w (happens c e .chip) st → Fed w c (e ∷ st)
 
 -- "its bytes, its check": the check's two bytes, the first bit of each lowest
 
@@ -181,20 +119,13 @@ abbrev pub Always2 : Type 0
 Always2 = (w : Which) (c : Chip) (xs ys : List Event) (note : List ℕ) → Listening (sideOf w c) → 1 ≤ length note → Below 256 note → Fed w c (xs ++ ys)
     → bitsOf w (xs ++ ys) ≡ frame note → Moment w c xs (ended false (withCheck note))
 
--- RR1 with all sent, 011, frame end and no D6, and with all sent alone
-abbrev pub goodEnd : ℕ
-goodEnd = 0b10000111
-
-abbrev pub noEnd : ℕ
-noEnd = 0b1
-
 -- RR1 at every such moment at which a character waits, both latches clear from the start: the mark is shown exactly if all but the last were
 -- read, so that the last is the oldest
 abbrev pub Mark2 : Type 0
 Mark2 = (w : Which) (c : Chip) (xs ys : List Event) (note : List ℕ) → Listening (sideOf w c) → 1 ≤ length note → Below 256 note → Fed w c (xs ++ ys)
     → bitsOf w (xs ++ ys) ≡ frame note → chan w c .queue .parity ≡ false → chan w c .queue .overrun ≡ false
     → waits (chan w (after c xs) .queue) ≡ true → chan w (after c xs) .pointer ≡ 1
-    → step (after c xs) (ControlRead (number w)) .answer ≡ Gave (if eqb (length (valuesOf w c xs) + 1) (length note + 2) then goodEnd else noEnd)
+    → happens (after c xs) (ControlRead (number w)) .answer ≡ Gave (if eqb (length (valuesOf w c xs) + 1) (length note + 2) then goodEnd else noEnd)
 
 -- Several notes, each closing flag the next one's opening flag
 

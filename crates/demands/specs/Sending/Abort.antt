@@ -28,15 +28,16 @@ use Rattle.channel.specs.Channel.{settled}
 use Rattle.channel.specs.Control.{commanded, preset, commandStep, presetStep, writeWr0, controlWritten}
 use Rattle.chip.specs.declared.Chip.{Chip}
 use Rattle.chip.specs.Chip.{controlWriteA, controlWrite}
-use Rattle.chip.specs.Event.{Event, ControlWrite, Transmit, step}
+use Rattle.chip.specs.Event.{Event, ControlWrite, Transmit}
 use Rattle.come.specs.Come.{Good, flagTail}
 use Rattle.come.specs.Stage.{Stage, opening, inByte, inCheck, closing}
 use Rattle.come.specs.Laws.{in-sdlc}
 use Rattle.come.specs.Start.{flagHead}
-use Rattle.demands.specs.Story.{Which, A, B, number, chan, after}
+use Rattle.stories.specs.Story.{Which, A, B, number, chan, happens, after}
+use Rattle.stories.specs.Sent.{isTick, lineBit, lineOf, ticks}
 use Rattle.demands.specs.Receiving.Deaf.{flagFree, onesOver, lead, content-free, free-front, ones-counted, abort-no-end, abort-untold}
 use Rattle.demands.specs.Receiving.Heard.{hearAll}
-use Rattle.demands.specs.Sending.Side.{good, good-of, SenderSide, sendingIn, sideIn, sideOf, isTick, lineBit, lineOf, ticks}
+use Rattle.demands.specs.Sending.Side.{good, good-of, SenderSide, sendingIn, sideIn, sideOf}
 use Rattle.demands.specs.Sending.Statement.{SendsAbort, LeftToRun, ended, kept, ticking, AbortCuts, AbortUntold}
 use Rattle.demands.specs.Sending.Frame.{tick-side, tick-bit, tick-counts, skip-line, skip-ticks, frame-kept, frame-begun}
 
@@ -65,7 +66,7 @@ write-cuts c s v p e h a =
     rw (x, y) (preset-cut c (settled c (commanded c (commandIn v))) (presetIn v) (command-cuts c (commandIn v) e h a))
 
 abort-cut : (w : Which) (c : Chip) (v : ℕ) → SendsAbort w c v → Good (sendingIn (chan w c)) → aborting (chan w c .sender .unit) ≡ false
-    → CutFrom (chan w c) (chan w (step c (ControlWrite (number w) v) .chip))
+    → CutFrom (chan w c) (chan w (happens c (ControlWrite (number w) v) .chip))
 unfolding controlWrite controlWriteA
 abort-cut A c v s h a =
     let x : eqb (c .a .pointer) 0 ≡ true = ap (λ (n : ℕ). eqb n 0) (s .to-wr0) in
@@ -131,7 +132,7 @@ runs-line w (ticking {c = c} {st = st} f) h u e o l =
     let m = tick-more w st in
     let t = runs g (good-of g h) u (s .core) o (omega arith) in
     let q : tick g s ≡ ticked (t .sent) false (sender (t .next) (uncounted (s .core))) = ap (λ (x : LineUnit). tick g (sender x (s .core))) e ∙ t .ticks-to in
-    let d = step c (Transmit (number w)) .chip in
+    let d = happens c (Transmit (number w)) .chip in
     let i = runs-line w f (ap (λ (x : SenderSide). x .heeds) (tick-side w c) ∙ h) (t .next)
     (ap (λ (x : SenderSide). x .sender .unit) (tick-side w c) ∙ ap (λ (x : Ticked). x .sender .unit) q)
     (ap (λ (x : SenderSide). x .sender .core .owed) (tick-side w c) ∙ ap (λ (x : Ticked). x .sender .core .owed) q)
@@ -144,8 +145,8 @@ line-join : (w : Which) (c : Chip) (xs ys : List Event) → lineOf w c (xs ++ ys
 unfolding lineOf after
 line-join w c [] ys = refl
 line-join w c (x ∷ xs) ys =
-    ap (λ (l : List Bool). lineBit (isTick w x) (step c x .answer) ++ l) (line-join w (step c x .chip) xs ys)
-    ∙ sym (append-assoc (lineBit (isTick w x) (step c x .answer)) (lineOf w (step c x .chip) xs) (lineOf w (after (step c x .chip) xs) ys))
+    ap (λ (l : List Bool). lineBit (isTick w x) (happens c x .answer) ++ l) (line-join w (happens c x .chip) xs ys)
+    ∙ sym (append-assoc (lineBit (isTick w x) (happens c x .answer)) (lineOf w (happens c x .chip) xs) (lineOf w (after (happens c x .chip) xs) ys))
 
 -- Behind its first flag, a frame that is cut before its last bit holds no flag
 

@@ -18,12 +18,13 @@ use Rattle.channel.specs.Channel.{settled}
 use Rattle.channel.specs.Control.{commanded, preset, commandStep, presetStep, writeWr0, controlWritten}
 use Rattle.chip.specs.declared.Chip.{Chip}
 use Rattle.chip.specs.Chip.{controlWriteA, controlWrite}
-use Rattle.chip.specs.Event.{ControlWrite, step}
+use Rattle.chip.specs.Event.{ControlWrite}
 use Rattle.come.specs.Come.{toCome}
 use Rattle.come.specs.Stage.{Stage, opening, inByte, inCheck, closing}
 use Rattle.come.specs.Start.{flagHead, unfinished-some}
-use Rattle.demands.specs.Story.{Which, A, B, number, chan, after}
-use Rattle.demands.specs.Sending.Side.{SenderSide, good-of, sendingIn, lineOf}
+use Rattle.stories.specs.Story.{Which, A, B, number, chan, happens, after}
+use Rattle.stories.specs.Sent.{lineOf}
+use Rattle.demands.specs.Sending.Side.{SenderSide, good-of, sendingIn}
 use Rattle.demands.specs.Sending.Statement.{StartsAnew, FrameEnds}
 use Rattle.demands.specs.Sending.Frame.{frame-kept, sent-length}
 
@@ -45,12 +46,12 @@ clear-left : (c : Channel) (s : Side) → c .pointer ≡ 0 → Left c (controlWr
 unfolding controlWritten writeWr0 commandStep presetStep commanded preset settled
 clear-left c s p = rw (at-zero c p) (record { sender = refl; settings = refl; pointer = refl })
 
-write-preset : (w : Which) (c : Chip) → chan w c .pointer ≡ 0 → Left (chan w c) (chan w (step c (ControlWrite (number w) 0b10000000) .chip)) checkPreset
+write-preset : (w : Which) (c : Chip) → chan w c .pointer ≡ 0 → Left (chan w c) (chan w (happens c (ControlWrite (number w) 0b10000000) .chip)) checkPreset
 unfolding controlWrite controlWriteA
 write-preset A c p = rw (at-zero (c .a) p) (preset-left (c .a) channels.A p)
 write-preset B c p = preset-left (c .b) channels.B p
 
-write-clear : (w : Which) (c : Chip) → chan w c .pointer ≡ 0 → Left (chan w c) (chan w (step c (ControlWrite (number w) 0b11000000) .chip)) latchCleared
+write-clear : (w : Which) (c : Chip) → chan w c .pointer ≡ 0 → Left (chan w c) (chan w (happens c (ControlWrite (number w) 0b11000000) .chip)) latchCleared
 unfolding controlWrite controlWriteA
 write-clear A c p = rw (at-zero (c .a) p) (clear-left (c .a) channels.A p)
 write-clear B c p = clear-left (c .b) channels.B p
@@ -58,10 +59,10 @@ write-clear B c p = clear-left (c .b) channels.B p
 pub starts-anew : StartsAnew
 unfolding after
 starts-anew w c p h =
-    let d = step c (ControlWrite (number w) 0b10000000) .chip in
+    let d = happens c (ControlWrite (number w) 0b10000000) .chip in
     let x = write-preset w c (h .to-wr0) in
     let y = write-clear w d (x .pointer) in
-    let e = chan w (step d (ControlWrite (number w) 0b11000000) .chip) in
+    let e = chan w (happens d (ControlWrite (number w) 0b11000000) .chip) in
     let s : e .sender ≡ latchCleared (checkPreset (chan w c .sender)) = y .sender ∙ ap latchCleared (x .sender) in
     let g : sendingIn e ≡ sendingIn (chan w c) = y .settings ∙ x .settings in
     record {

@@ -1,15 +1,16 @@
--- Stories that meet what demand 3 asks, computed: one in time amid all sorts of other events, one at the last moment, one with an underrun, one
--- with an abort; and stories that do not meet it. Then the theorems, said of them. Assumes nothing.
+-- The stories of demand 3, computed to meet what it asks: one in time amid all sorts of other events, one at the last moment, one with an
+-- underrun, one with an abort; and stories that do not meet it. Then the theorems, said of them. Assumes nothing.
 use mathlib.Core.Path.{_≡_, refl}
 use mathlib.Core.Bool.{Bool, true, false}
 use mathlib.Core.List.{List, [], _∷_, _++_}
-use Prim.Native.Nat.{ℕ, zero, suc, _+_, _*_}
+use Prim.Native.Nat.{ℕ, _-_}
 use native.Mathlib.Omega.{arith}
-use lib.ListN.{replicate}
+use lib.ListN.{take, replicate}
 use Rattle.line.specs.Bits.{lowBits, textBits}
-use Rattle.line.specs.Check.{checkStep, checkOver, topBits, checkBits}
+use Rattle.line.specs.Check.{ones, checkStep, checkOver, topBits, checkBits}
 use Rattle.line.specs.Insertion.{stuff, zeros}
 use Rattle.line.specs.Frame.{flagBits, frame}
+use Rattle.sender.specs.declared.LineUnit.the-variants.{Flag}
 use Rattle.sender.specs.Sender as sender
 use Rattle.queue.specs.Queue.{pushed, taken, oldest, special}
 use Rattle.receiver.specs.Sdlc.{accept, push, one, zeroBit}
@@ -19,78 +20,45 @@ use Rattle.channel.specs.Status.{changed, noticed, afresh}
 use Rattle.channel.specs.Channel.{liveOf, settled}
 use Rattle.channel.specs.Control.{commanded, preset, commandStep, presetStep, writeWr0, setWr4, setRegister, controlWritten, rr0, rr1Now, readRegister}
 use Rattle.channel.specs.Events.{dataRead, transmitTick, receiveTick, linesSet, specialWaits, receivePending, pendingIn}
-use Rattle.chip.specs.declared.Chip.{Chip}
 use Rattle.chip.specs.Interrupts.{highestOf, pendingLevel, serviceLevel, anyPending, serving, atLevel, mayTake, acknowledge, reti}
-use Rattle.chip.specs.Chip.{hardReset, controlWriteA, controlWrite, controlReadCall, dataWriteCall, dataReadCall, transmitCall, receiveCall, linesCall}
-use Rattle.chip.specs.Event.{Event, ControlWrite, ControlRead, DataWrite, DataRead, Transmit, Receive, SetLines, Acknowledge, Reti, step}
+use Rattle.chip.specs.Chip.{controlWriteA, controlWrite, controlReadCall, dataWriteCall, dataReadCall, transmitCall, receiveCall, linesCall}
+use Rattle.chip.specs.Event.{Event, ControlWrite, DataWrite, Transmit}
+use Rattle.come.specs.Come.{Good}
 use Rattle.come.specs.Start.{flagHead}
-use Rattle.demands.specs.Story.{A, chan, after}
+use Rattle.stories.specs.Story.{A, chan, happens, after}
+use Rattle.stories.specs.Sent.{lineOf, ticks, d6, resetStatus}
+use Rattle.stories.specs.Sending.{times, tick, setUp, begin, noisy, dry, late, whole, choosing, held, begun, sendAbort, gone, told}
+use Rattle.demands.specs.Sound.{reset-sound}
 use Rattle.demands.specs.Receiving.Statement as receiving
 use Rattle.demands.specs.Receiving.Heard.{hearAll}
 use Rattle.demands.specs.Receiving.Deaf.{endMarks}
-use Rattle.demands.specs.Sending.Side.{lineOf, ticks}
-use Rattle.demands.specs.Sending.Statement.{Start, RunsDry, d6, statusLatched, resetStatus, SendsAbort, Aborted, NotClosed}
-use Rattle.demands.specs.Sending.Underrun.{fed-late, underrun-seen, never-unseen}
+use Rattle.demands.specs.Sending.Side.{sendingIn, fullOf, latchOf}
+use Rattle.demands.specs.Sending.Statement.{Start, Closing, anew, RunsDry, Underrun, statusLatched, SendsAbort, Aborted, NotClosed}
+use Rattle.demands.specs.Sending.Frame.{start-of, frame-begun}
+use Rattle.demands.specs.Sending.Chain.{starts-anew, frame-ends}
+use Rattle.demands.specs.Sending.Underrun.{underrun, fed-late, underrun-seen, no-incident, reset-shows, never-unseen}
 use Rattle.demands.specs.Sending.Unclosed.{frame-seen}
 use Rattle.demands.specs.Sending.Abort.{abort3}
 use Rattle.demands.specs.Sending.Timely.{timely, in-time, demand3-tested, freely, free-of, watching, watched-of}
-
-unfoldable pub times : ℕ → List Event → List Event
-times zero es = []
-times (suc n) es = es ++ times n es
-
-abbrev pub tick : List Event
-tick = Transmit 0 ∷ []
-
--- from a hard reset: WR4 for SDLC, WR5 with the sender on and the check included, the check preset, the latch cleared, the receiver on, status
--- shown afresh twice, since the cleared latch and the hunt had latched it; then three bits of a flag
-abbrev pub begin : Chip
-begin = after hardReset (ControlWrite 0 4 ∷ ControlWrite 0 0b100000 ∷ ControlWrite 0 5 ∷ ControlWrite 0 0b1001 ∷ ControlWrite 0 0b10000000
-    ∷ ControlWrite 0 0b11000000 ∷ ControlWrite 0 3 ∷ ControlWrite 0 0b1 ∷ ControlWrite 0 resetStatus ∷ times 3 tick)
-
--- A's frame FF 88 goes out, while B is written, ticked and reset, A listens, is read and acknowledged, lines change, WR1, WR3, WR4 and WR5 are
--- written as far as they leave the sender alone, and calls are refused
-abbrev pub noisy : List Event
-noisy =
-    Transmit 0 ∷ DataWrite 1 7 ∷ DataWrite 0 255 ∷ Receive 0 1 ∷ Transmit 0 ∷ Transmit 0 ∷ Transmit 0 ∷ Transmit 1 ∷ Transmit 7 ∷ Transmit 0
-    ∷ SetLines 0 1 1 ∷ ControlWrite 0 resetStatus ∷ Acknowledge ∷ ControlWrite 0 3 ∷ ControlWrite 0 0b11000001 ∷ ControlWrite 0 4 ∷ ControlWrite 0 0xFF
-    ∷ ControlWrite 0 0b100011 ∷ ControlWrite 0 5 ∷ ControlWrite 0 0b1101001 ∷ ControlWrite 0 1 ∷ ControlRead 0 ∷ ControlWrite 1 0b11000
-    ∷ Transmit 0 ∷ DataWrite 0 136 ∷ Reti ∷ times 41 (Transmit 0 ∷ Transmit 1 ∷ Receive 0 1 ∷ DataRead 0 ∷ [])
 
 -- the second byte k ticks behind the one that loaded the first
 abbrev pub second : ℕ → List Event
 second k = DataWrite 0 0 ∷ (times 6 tick ++ (times k tick ++ (DataWrite 0 0 ∷ times 32 tick)))
 
--- one byte, up to where the line runs dry, and what is left of its frame, a byte that comes too late within it
-abbrev pub dry : List Event
-dry = DataWrite 0 0 ∷ times 13 tick
-
-abbrev pub late : List Event
-late = DataWrite 0 0 ∷ times 23 tick
-
--- Send Abort amid the second byte, and a byte of the next frame
-abbrev pub begun : List Event
-begun = DataWrite 0 1 ∷ (times 9 tick ++ (DataWrite 0 2 ∷ times 8 tick))
-
-abbrev pub sendAbort : ℕ
-sendAbort = 0b1000
-
-abbrev pub gone : List Event
-gone = DataWrite 0 3 ∷ times 16 tick
-
 -- a receiver behind a reset, in SDLC and on, that hears a line: the end marks
 abbrev pub endsIn : List Bool → ℕ
 endsIn line = endMarks (hearAll (receiving.sideOf A begin .settings) reset line .got)
 
-abbrev pub choosing : Chip
-choosing = after begin dry
-
 pub record Examples : Type 0 where
-  pub starts : Start A begin 3
+  -- within a flag, the buffer empty, the check preset, the latch cleared
+  pub flag : chan A begin .sender .unit ≡ Flag (8 - 3)
+  pub empty : fullOf A begin ≡ false
+  pub preset : chan A begin .sender .core .check ≡ ones
+  pub latch-cleared : latchOf A begin ≡ false
+  pub settings : Good (sendingIn (chan A begin))
   -- in time, though it is amid all that
   pub noisy-timely : timely A begin 2 (255 ∷ 136 ∷ []) noisy ≡ true
-  pub noisy-line : flagHead 3 ++ lineOf A begin noisy ≡ frame (255 ∷ 136 ∷ [])
-  pub noisy-ticks : 3 + ticks A noisy ≡ 8 * (2 + 2) + 16 + 2
+  pub noisy-end : (fullOf A (after begin noisy) ≡ false) × (chan A (after begin noisy) .pointer ≡ 0)
   -- seven ticks may pass, the eighth may not
   pub seven : timely A begin 2 (0 ∷ 0 ∷ []) (second 7) ≡ true
   pub eight : timely A begin 2 (0 ∷ 0 ∷ []) (second 8) ≡ false
@@ -100,45 +68,33 @@ pub record Examples : Type 0 where
   -- a WR5 write that turns the check off, and a clearing of the latch, are not quiet
   pub touched : timely A begin 2 (0 ∷ []) (DataWrite 0 0 ∷ ControlWrite 0 5 ∷ ControlWrite 0 0b1000 ∷ []) ≡ false
   pub cleared : timely A begin 2 (0 ∷ []) (DataWrite 0 0 ∷ ControlWrite 0 0b11000000 ∷ []) ≡ false
-  -- the line runs dry: D6 reads 0 before the tick that finds it so and 1 behind it, and the frame is that of the one byte
+  -- the line runs dry, and a byte comes too late
   pub dry-timely : timely A begin 2 (0 ∷ []) dry ≡ true
   pub runs-dry : RunsDry A choosing
   pub unlatched : statusLatched A choosing ≡ false
   pub at-wr0 : (chan A choosing .pointer ≡ 0) × (chan A (after choosing (Transmit 0 ∷ late)) .pointer ≡ 0)
-  pub late-free : freely A (step choosing (Transmit 0) .chip) late ≡ true
+  pub late-free : freely A (happens choosing (Transmit 0) .chip) late ≡ true
   pub dry-watched : watching A begin dry ≡ true
-  pub late-watched : watching A begin (dry ++ (Transmit 0 ∷ late)) ≡ true
-  pub late-wr0 : chan A (after begin (dry ++ (Transmit 0 ∷ late))) .pointer ≡ 0
-  pub before-choice : d6 A choosing ≡ false
-  pub at-choice : d6 A (step choosing (Transmit 0) .chip) ≡ true
-  pub late-line : flagHead 3 ++ lineOf A begin (dry ++ (Transmit 0 ∷ late)) ≡ frame (0 ∷ [])
-  -- DCD has latched status before: D6 reads as before, and behind Reset External/Status as it is
-  pub held-back : d6 A (after choosing (SetLines 0 1 0 ∷ Transmit 0 ∷ [])) ≡ false
-  pub shown-afresh : d6 A (after choosing (SetLines 0 1 0 ∷ Transmit 0 ∷ ControlWrite 0 resetStatus ∷ [])) ≡ true
-  -- an abort: eight ones and a flag; the receiver tells no end, and would have told one of the whole frame
+  pub late-watched : watching A begin whole ≡ true
+  pub late-wr0 : chan A (after begin whole) .pointer ≡ 0
+  pub held-set : (chan A held .pointer ≡ 0) × (latchOf A held ≡ true)
+  -- an abort: the receiver tells no end, and would have told one of the whole frame
   pub begun-timely : timely A begin 2 (1 ∷ 2 ∷ []) begun ≡ true
   pub aborts : SendsAbort A (after begin begun) sendAbort
-  pub gone-free : freely A (step (after begin begun) (ControlWrite 0 sendAbort) .chip) gone ≡ true
-  pub aborted-line : lineOf A begin (begun ++ (ControlWrite 0 sendAbort ∷ gone)) ≡ lineOf A begin begun ++ (replicate 8 true ++ flagBits)
+  pub gone-free : freely A (happens (after begin begun) (ControlWrite 0 sendAbort) .chip) gone ≡ true
   pub no-end : endsIn (flagHead 3 ++ (lineOf A begin begun ++ (replicate 8 true ++ flagBits))) ≡ 0
   pub an-end : endsIn (frame (1 ∷ 2 ∷ [])) ≡ 1
 
 pub examples : Examples
 unfolding timely freely watching hearAll times lineOf ticks after stuff zeros textBits lowBits checkOver checkStep checkBits topBits controlWriteA controlWrite controlReadCall dataWriteCall dataReadCall transmitCall receiveCall linesCall highestOf pendingLevel serviceLevel anyPending serving atLevel mayTake acknowledge reti liveOf settled commanded preset commandStep presetStep writeWr0 setWr4 setRegister controlWritten rr0 rr1Now readRegister dataRead transmitTick receiveTick linesSet specialWaits receivePending pendingIn changed noticed afresh sender.following sender.going sender.tickSdlc sender.tick hear one zeroBit push accept pushed taken oldest special modeOf notBuilt lengthOf sendingOf receivingOf
 examples = record {
-  starts = record {
-    some = omega arith;
-    inside = omega arith;
-    flag = refl;
-    empty = refl;
-    preset = refl;
-    cleared = refl;
-    settings = record { sdlc-mode = refl; on = refl; included = refl; no-break = refl };
-    history = (refl, refl, omega arith);
-  };
+  flag = refl;
+  empty = refl;
+  preset = refl;
+  latch-cleared = refl;
+  settings = record { sdlc-mode = refl; on = refl; included = refl; no-break = refl };
   noisy-timely = refl;
-  noisy-line = refl;
-  noisy-ticks = refl;
+  noisy-end = (refl, refl);
   seven = refl;
   eight = refl;
   first = refl;
@@ -153,45 +109,82 @@ examples = record {
   dry-watched = refl;
   late-watched = refl;
   late-wr0 = refl;
-  before-choice = refl;
-  at-choice = refl;
-  late-line = refl;
-  held-back = refl;
-  shown-afresh = refl;
+  held-set = (refl, refl);
   begun-timely = refl;
   aborts = record { to-wr0 = refl; command = refl };
   gone-free = refl;
-  aborted-line = refl;
   no-end = refl;
   an-end = refl;
 }
 
 -- the theorems speak of these stories
 
+pub starts : Start A begin 3
+starts =
+    start-of A begin 3 (reset-sound setUp) (omega arith) (omega arith) (examples .flag) (examples .empty) (examples .preset) (examples .latch-cleared)
+    (examples .settings)
+
 noisy-sent : flagHead 3 ++ lineOf A begin noisy ≡ frame (255 ∷ 136 ∷ [])
 unfolding ticks times stuff zeros textBits lowBits checkOver checkStep checkBits topBits
-noisy-sent = demand3-tested A begin 3 255 (136 ∷ []) noisy (examples .starts) (examples .noisy-timely) refl
+noisy-sent = demand3-tested A begin 3 255 (136 ∷ []) noisy starts (examples .noisy-timely) refl
 
-late-sent : flagHead 3 ++ lineOf A begin (dry ++ (Transmit 0 ∷ late)) ≡ frame (0 ∷ [])
+noisy-ends : Closing A (after begin noisy) 8
+unfolding ticks times stuff zeros textBits lowBits checkOver checkStep checkBits topBits
+noisy-ends =
+    frame-ends A begin 3 255 (136 ∷ []) noisy starts (in-time A begin 2 (255 ∷ 136 ∷ []) noisy (examples .noisy-timely)) refl
+    (examples .noisy-end .0) (examples .noisy-end .1)
+
+next-starts : Start A (after (after begin noisy) (anew A)) 8
+next-starts = starts-anew A (after begin noisy) 8 noisy-ends
+
+begun-sent : flagHead 3 ++ lineOf A begin begun ≡ take 20 (frame (1 ∷ 2 ∷ []))
+unfolding ticks times stuff zeros textBits lowBits checkOver checkStep checkBits topBits
+begun-sent =
+    frame-begun A begin 3 1 (2 ∷ []) [] begun starts (in-time A begin 2 (1 ∷ 2 ∷ []) begun (examples .begun-timely)) (omega arith)
+
+dry-underrun : Underrun A choosing
+dry-underrun = underrun A choosing (examples .at-wr0 .0) (examples .runs-dry)
+
+late-sent : flagHead 3 ++ lineOf A begin whole ≡ frame (0 ∷ [])
 unfolding ticks times stuff zeros textBits lowBits checkOver checkStep checkBits topBits
 late-sent =
-    fed-late A begin 3 0 [] dry late (examples .starts) (in-time A begin 2 (0 ∷ []) dry (examples .dry-timely)) (examples .runs-dry)
-    (free-of A (step choosing (Transmit 0) .chip) late (examples .late-free)) refl
+    fed-late A begin 3 0 [] dry late starts (in-time A begin 2 (0 ∷ []) dry (examples .dry-timely)) (examples .runs-dry)
+    (free-of A (happens choosing (Transmit 0) .chip) late (examples .late-free)) refl
+
+late-seen : d6 A (after choosing (Transmit 0 ∷ late)) ≡ true
+late-seen =
+    underrun-seen A choosing late (examples .runs-dry) (examples .unlatched) (free-of A (happens choosing (Transmit 0) .chip) late (examples .late-free))
+    (examples .at-wr0 .1)
+
+-- two bytes were meant and one went out: all of the incident but its end
+late-told : d6 A (after begin whole) ≡ false → ⊥
+late-told unseen =
+    no-incident A begin (0 ∷ 0 ∷ []) dry late (record {
+      p = 3;
+      v = 0;
+      vs = [];
+      start = starts;
+      fed = in-time A begin 2 (0 ∷ []) dry (examples .dry-timely);
+      fewer = omega arith;
+      dry = examples .runs-dry;
+      unlatched = examples .unlatched;
+      late = free-of A (happens choosing (Transmit 0) .chip) late (examples .late-free);
+      closed = told .late-line;
+      looks = examples .late-wr0;
+      unseen = unseen;
+    })
+
+held-shown : d6 A (happens held (ControlWrite 0 resetStatus) .chip) ≡ true
+held-shown = reset-shows A held (examples .held-set .0) (examples .held-set .1)
+
+dry-open : NotClosed A choosing
+dry-open = never-unseen A begin 3 dry starts (watched-of A begin dry (examples .dry-watched)) (examples .at-wr0 .0) (told .before-choice)
+
+frame-shows : d6 A (after begin whole) ≡ true
+frame-shows =
+    frame-seen A begin 3 whole (0 ∷ []) starts (watched-of A begin whole (examples .late-watched)) (examples .late-wr0) (told .late-line)
 
 aborted-sent : Aborted A begin 3 begun sendAbort
 unfolding ticks times stuff zeros textBits lowBits checkOver checkStep checkBits topBits
 aborted-sent =
-    abort3 A begin 3 1 (2 ∷ []) [] begun sendAbort (examples .starts) (in-time A begin 2 (1 ∷ 2 ∷ []) begun (examples .begun-timely)) (omega arith) (examples .aborts)
-
-late-seen : d6 A (after choosing (Transmit 0 ∷ late)) ≡ true
-late-seen =
-    underrun-seen A choosing late (examples .runs-dry) (examples .unlatched) (free-of A (step choosing (Transmit 0) .chip) late (examples .late-free))
-    (examples .at-wr0 .1)
-
-dry-open : NotClosed A choosing
-dry-open = never-unseen A begin 3 dry (examples .starts) (watched-of A begin dry (examples .dry-watched)) (examples .at-wr0 .0) (examples .before-choice)
-
-frame-shows : d6 A (after begin (dry ++ (Transmit 0 ∷ late))) ≡ true
-frame-shows =
-    frame-seen A begin 3 (dry ++ (Transmit 0 ∷ late)) (0 ∷ []) (examples .starts) (watched-of A begin (dry ++ (Transmit 0 ∷ late)) (examples .late-watched))
-    (examples .late-wr0) (examples .late-line)
+    abort3 A begin 3 1 (2 ∷ []) [] begun sendAbort starts (in-time A begin 2 (1 ∷ 2 ∷ []) begun (examples .begun-timely)) (omega arith) (examples .aborts)

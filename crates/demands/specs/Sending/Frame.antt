@@ -7,6 +7,7 @@ use native.Mathlib.Omega.{arith}
 use lib.ListN.{length, take, length-append}
 use lib.Seq.{take-at}
 use Rattle.line.specs.Bits.{oneIf}
+use Rattle.line.specs.Check.{ones}
 use Rattle.line.specs.Frame.{frame}
 use Rattle.line.specs.Laws.Frame.{ticks-are}
 use Rattle.line.specs.Laws.Frame as laws
@@ -19,13 +20,16 @@ use Rattle.channel.specs.Channel.{settled}
 use Rattle.channel.specs.Events.{transmitTick}
 use Rattle.chip.specs.declared.Chip.{Chip}
 use Rattle.chip.specs.Chip.{onLevel, dataWriteCall, transmitCall}
-use Rattle.chip.specs.Event.{Event, DataWrite, Transmit, step}
-use Rattle.come.specs.Come.{toCome}
+use Rattle.chip.specs.Event.{Event, DataWrite, Transmit}
+use Rattle.chip.specs.Sound.{SoundChip}
+use Rattle.come.specs.Come.{Good, toCome}
 use Rattle.come.specs.Stage.{sinceAfter, inTime, Stage}
 use Rattle.come.specs.Laws.{takes, moves, later}
 use Rattle.come.specs.Start.{started, flagHead, head-length, at-start, start-stage}
-use Rattle.demands.specs.Story.{Which, A, B, number, chan, after}
-use Rattle.demands.specs.Sending.Side.{Heeded, heeded, good, good-of, good-heeded, SenderSide, side, sendingIn, sideOf, fullOf, Role, View, its-tick, its-write, other, view, ticksBy, isTick, lineBit, lineOf, ticks}
+use Rattle.stories.specs.Story.{Which, A, B, number, chan, happens, after}
+use Rattle.stories.specs.Sent.{Role, ticksBy, isTick, lineBit, lineOf, ticks}
+use Rattle.demands.specs.Sound.{sender-sound}
+use Rattle.demands.specs.Sending.Side.{Heeded, heeded, good, good-of, good-heeded, SenderSide, side, sendingIn, sideOf, fullOf, latchOf, View, its-tick, its-write, other, view}
 use Rattle.demands.specs.Sending.Statement.{Start, InTime, over, still, writes, next-frame, ticking, FrameSent, FrameBegun, ZerosFew}
 
 -- What the three kinds of event are to the side
@@ -33,7 +37,7 @@ use Rattle.demands.specs.Sending.Statement.{Start, InTime, over, still, 
 abbrev pub afterTick : Which → Chip → SenderSide
 afterTick w c = side (tick (sendingIn (chan w c)) (chan w c .sender) .sender) (heeded (sendingIn (chan w c)))
 
-pub tick-side : (w : Which) (c : Chip) → sideOf w (step c (Transmit (number w)) .chip) ≡ afterTick w c
+pub tick-side : (w : Which) (c : Chip) → sideOf w (happens c (Transmit (number w)) .chip) ≡ afterTick w c
 unfolding transmitCall transmitTick settled
 tick-side A c = refl
 tick-side B c = refl
@@ -42,7 +46,7 @@ level-bit : (b : Bool) → onLevel (oneIf b) ≡ b
 level-bit true = refl
 level-bit false = refl
 
-pub tick-bit : (w : Which) (c : Chip) → lineBit (isTick w (Transmit (number w))) (step c (Transmit (number w)) .answer)
+pub tick-bit : (w : Which) (c : Chip) → lineBit (isTick w (Transmit (number w))) (happens c (Transmit (number w)) .answer)
     ≡ tick (sendingIn (chan w c)) (chan w c .sender) .bit ∷ []
 unfolding transmitCall transmitTick
 tick-bit A c = ap (λ (b : Bool). b ∷ []) (level-bit (tick (sendingIn (c .a)) (c .a .sender) .bit))
@@ -52,7 +56,7 @@ pub tick-counts : (w : Which) → isTick w (Transmit (number w)) ≡ true
 tick-counts A = refl
 tick-counts B = refl
 
-pub write-side : (w : Which) (c : Chip) (v : ℕ) → sideOf w (step c (DataWrite (number w) v) .chip) ≡ side (written (chan w c .sender) v) (sideOf w c .heeds)
+pub write-side : (w : Which) (c : Chip) (v : ℕ) → sideOf w (happens c (DataWrite (number w) v) .chip) ≡ side (written (chan w c .sender) v) (sideOf w c .heeds)
 unfolding dataWriteCall
 write-side A c v = refl
 write-side B c v = refl
@@ -62,9 +66,9 @@ write-no-tick A v = refl
 write-no-tick B v = refl
 
 -- an event that is no tick gives no bit and counts for none
-pub skip-line : (w : Which) (c : Chip) (x : Event) (st : List Event) → isTick w x ≡ false → lineOf w c (x ∷ st) ≡ lineOf w (step c x .chip) st
+pub skip-line : (w : Which) (c : Chip) (x : Event) (st : List Event) → isTick w x ≡ false → lineOf w c (x ∷ st) ≡ lineOf w (happens c x .chip) st
 unfolding lineOf
-skip-line w c x st z = ap (λ (t : Bool). lineBit t (step c x .answer) ++ lineOf w (step c x .chip) st) z
+skip-line w c x st z = ap (λ (t : Bool). lineBit t (happens c x .answer) ++ lineOf w (happens c x .chip) st) z
 
 pub skip-ticks : (w : Which) (x : Event) (st : List Event) → isTick w x ≡ false → ticks w (x ∷ st) ≡ ticks w st
 unfolding ticks
@@ -82,7 +86,7 @@ pub record Conserved (a : Bool) (w : Which) (c : Chip) (st : List Event) (s : Se
 
 -- a story that begins with an event that is no tick, from what is so behind it
 skip : {a : Bool} (w : Which) (c : Chip) (x : Event) (st : List Event) (s t : Sender) (rest more left : List ℕ) → isTick w x ≡ false
-    → toCome s rest ≡ toCome t more → Conserved a w (step c x .chip) st t more left → Conserved a w c (x ∷ st) s rest left
+    → toCome s rest ≡ toCome t more → Conserved a w (happens c x .chip) st t more left → Conserved a w c (x ∷ st) s rest left
 unfolding after
 skip w c x st s t rest more left z e k = record {
   last = k .last;
@@ -90,6 +94,21 @@ skip w c x st s t rest more left z e k = record {
   there = k .there;
   stage = k .stage;
   whole = ap (λ (l : List Bool). l ++ toCome (k .last) left) (skip-line w c x st z) ∙ k .whole ∙ sym e;
+}
+
+-- and one that begins with a tick
+ticks-on : {a : Bool} (w : Which) (c : Chip) (st : List Event) (s t : Sender) (bit : Bool) (rest left : List ℕ)
+    → tick (sendingIn (chan w c)) (chan w c .sender) .bit ≡ bit → toCome s rest ≡ bit ∷ toCome t rest
+    → Conserved a w (happens c (Transmit (number w)) .chip) st t rest left → Conserved a w c (Transmit (number w) ∷ st) s rest left
+unfolding lineOf after
+ticks-on w c st s t bit rest left z e k = record {
+  last = k .last;
+  since = k .since;
+  there = k .there;
+  stage = k .stage;
+  whole =
+      ap (λ (b : List Bool). (b ++ lineOf w (happens c (Transmit (number w)) .chip) st) ++ toCome (k .last) left) (tick-bit w c ∙ ap (λ (b : Bool). b ∷ []) z)
+      ∙ ap (λ (b : List Bool). bit ∷ b) (k .whole) ∙ sym e;
 }
 
 pub conserved : {a : Bool} (w : Which) {left : List ℕ} {c : Chip} {n : ℕ} {rest : List ℕ} {st : List Event} → InTime w left c n rest st
@@ -115,28 +134,20 @@ conserved w {left} (ticking {c = c} {n = n} {rest = rest} {st = st} f i) s e g l
     let o = rw (tick-counts w) at l in
     let j = sendingIn (chan w c) in
     let t = takes j (good-of j (ap (λ (x : SenderSide). x .heeds) e)) g (ap (λ (x : SenderSide). inTime (x .sender .core .full) n rest) (sym e) ∙ f) (omega arith) in
-    let d = step c (Transmit (number w)) .chip in
+    let d = happens c (Transmit (number w)) .chip in
     let same : tick j (chan w c .sender) ≡ tick j s = ap (λ (x : SenderSide). tick j (x .sender)) e in
     let y : sideOf w d ≡ side (t .next) good =
     tick-side w c ∙ ap₂ (λ (o : Ticked) (h : Heeded). side (o .sender) h) (same ∙ t .ticks) (ap (λ (x : SenderSide). x .heeds) e) in
     let q : sinceAfter (s .core .full) (t .next .core .full) n ≡ sinceAfter (fullOf w c) (fullOf w d) n =
     ap₂ (λ (x y : SenderSide). sinceAfter (x .sender .core .full) (y .sender .core .full) n) (sym e) (sym y) in
-    let k = conserved w i (t .next) y (rw q at (t .stage)) (omega (arith, ap length (t .head))) in
-    record {
-      last = k .last;
-      since = k .since;
-      there = k .there;
-      stage = k .stage;
-      whole =
-          ap (λ (b : List Bool). (b ++ lineOf w d st) ++ toCome (k .last) left) (tick-bit w c ∙ ap (λ (o : Ticked). o .bit ∷ []) (same ∙ t .ticks))
-          ∙ ap (λ (b : List Bool). t .sent ∷ b) (k .whole) ∙ sym (t .head);
-    }
+    ticks-on w c st s (t .next) (t .sent) rest left (ap (λ (o : Ticked). o .bit) (same ∙ t .ticks)) (t .head)
+    (conserved w i (t .next) y (rw q at (t .stage)) (omega (arith, ap length (t .head))))
 
 -- a story has as many line bits as ticks
-bit-length : (w : Which) (c : Chip) (e : Event) → length (lineBit (isTick w e) (step c e .answer)) ≡ oneIf (isTick w e)
+bit-length : (w : Which) (c : Chip) (e : Event) → length (lineBit (isTick w e) (happens c e .answer)) ≡ oneIf (isTick w e)
 bit-length w c e = go w (view w e)
   where
-    go : (w : Which) {e : Event} {r : Role} → View w e r → length (lineBit (ticksBy r) (step c e .answer)) ≡ oneIf (ticksBy r)
+    go : (w : Which) {e : Event} {r : Role} → View w e r → length (lineBit (ticksBy r) (happens c e .answer)) ≡ oneIf (ticksBy r)
     go A its-tick = unfold transmitCall transmitTick in refl
     go B its-tick = unfold transmitCall transmitTick in refl
     go w its-write = refl
@@ -146,9 +157,23 @@ pub line-length : (w : Which) (c : Chip) (st : List Event) → length (lineOf w 
 unfolding lineOf ticks
 line-length w c [] = refl
 line-length w c (e ∷ st) =
-    omega (arith, length-append (lineBit (isTick w e) (step c e .answer)) (lineOf w (step c e .chip) st), bit-length w c e, line-length w (step c e .chip) st)
+    omega (arith, length-append (lineBit (isTick w e) (happens c e .answer)) (lineOf w (happens c e .chip) st), bit-length w c e, line-length w (happens c e .chip) st)
 
 -- Demand 3
+
+-- what the demand does not say, a chip has that came from a reset by events (`reset-sound` in Sound)
+pub start-of : (w : Which) (c : Chip) (p : ℕ) → SoundChip c → 1 ≤ p → p ≤ 8 → chan w c .sender .unit ≡ Flag (8 - p) → fullOf w c ≡ false
+    → chan w c .sender .core .check ≡ ones → latchOf w c ≡ false → Good (sendingIn (chan w c)) → Start w c p
+start-of w c p h some inside flag empty preset cleared settings = record {
+  some = some;
+  inside = inside;
+  flag = flag;
+  empty = empty;
+  preset = preset;
+  cleared = cleared;
+  settings = settings;
+  history = sender-sound w c h;
+}
 
 -- the demand's words are the state at the start
 pub start-side : (w : Which) (c : Chip) (p : ℕ) → Start w c p → sideOf w c ≡ side (started p (chan w c .sender .core .buffer)) good

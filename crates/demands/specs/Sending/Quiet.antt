@@ -28,9 +28,9 @@ use Rattle.chip.specs.declared.Outcome.{Outcome}
 use Rattle.chip.specs.declared.Acknowledged.{Acknowledged}
 use Rattle.chip.specs.Interrupts.{serviceLevel, none, serving, atLevel, mayTake, acknowledge, reti, pendingLevel}
 use Rattle.chip.specs.Chip.{refused, byChannel, endsService, onLevel, controlWriteA, controlWrite, controlReadCall, dataWriteCall, dataReadCall, transmitCall, receiveCall, linesCall}
-use Rattle.chip.specs.Event.{Event, HardReset, ControlWrite, ControlRead, DataWrite, DataRead, Transmit, Receive, SetLines, Acknowledge, Reti, step}
+use Rattle.chip.specs.Event.{Event, HardReset, ControlWrite, ControlRead, DataWrite, DataRead, Transmit, Receive, SetLines, Acknowledge, Reti}
 use Rattle.come.specs.Laws.{void}
-use Rattle.demands.specs.Story.{Which, A, B, number, chan}
+use Rattle.stories.specs.Story.{Which, A, B, number, chan, happens}
 use Rattle.demands.specs.Sending.Side.{Heeded, heeded, SenderSide, side, sendingIn, sideIn, sideOf}
 
 -- The test
@@ -270,7 +270,7 @@ set-lines-keep B c ch dcd cts q =
     (λ e. if-elim (KeepsOutcome B c) (leb 2 dcd || leb 2 cts) refl (lines-keep (c .b) (onLevel dcd) (onLevel cts) (rw e at q)))
 
 -- a quiet event leaves the sender's side as it was
-pub quiet-keeps : (w : Which) (c : Chip) (e : Event) → quiet w c e ≡ true → sideOf w (step c e .chip) ≡ sideOf w c
+pub quiet-keeps : (w : Which) (c : Chip) (e : Event) → quiet w c e ≡ true → sideOf w (happens c e .chip) ≡ sideOf w c
 unfolding controlReadCall dataWriteCall dataReadCall transmitCall receiveCall
 quiet-keeps w c HardReset q = void q
 quiet-keeps w c (ControlWrite ch v) q = write-keeps w c ch v q

@@ -29,12 +29,12 @@ use Rattle.chip.specs.declared.Outcome.{Outcome}
 use Rattle.chip.specs.declared.Acknowledged.{Acknowledged}
 use Rattle.chip.specs.Interrupts.{none, serving, atLevel, mayTake, acknowledge, reti, serviceLevel, pendingLevel, anyPending, rr2}
 use Rattle.chip.specs.Chip.{endsService, controlWriteA, controlWrite, controlReadCall, dataWriteCall, dataReadCall, transmitCall, receiveCall, linesCall}
-use Rattle.chip.specs.Event.{Event, HardReset, ControlWrite, ControlRead, DataWrite, DataRead, Transmit, Receive, SetLines, Acknowledge, Reti, step}
+use Rattle.chip.specs.Event.{Event, HardReset, ControlWrite, ControlRead, DataWrite, DataRead, Transmit, Receive, SetLines, Acknowledge, Reti}
 use Rattle.come.specs.Laws.{void}
-use Rattle.demands.specs.Story.{Which, A, B, number, chan}
+use Rattle.stories.specs.Story.{Which, A, B, number, chan, happens}
+use Rattle.stories.specs.Sent.{d6, resetStatus}
 use Rattle.demands.specs.Sending.Side.{sendingIn, latchOf}
 use Rattle.demands.specs.Sending.Quiet.{by-channel}
-use Rattle.demands.specs.Sending.Statement.{d6, resetStatus}
 
 -- D6 as it is read
 
@@ -173,14 +173,14 @@ alike-shows e h = rw e h
 abbrev ShownIn : Which → Outcome → Type 0
 ShownIn w x = Shown (chan w (x .chip))
 
-pub tick-shown : (w : Which) (c : Chip) → Shows (chan w c .status) → latchOf w (step c (Transmit (number w)) .chip) ≡ true
-    → Shows (chan w (step c (Transmit (number w)) .chip) .status)
+pub tick-shown : (w : Which) (c : Chip) → Shows (chan w c .status) → latchOf w (happens c (Transmit (number w)) .chip) ≡ true
+    → Shows (chan w (happens c (Transmit (number w)) .chip) .status)
 unfolding transmitCall transmitTick
 tick-shown A c h = settled-shown (c .a) _ h
 tick-shown B c h = settled-shown (c .b) _ h
 
-pub event-shown : (w : Which) (c : Chip) (e : Event) → latchOf w c ≡ true → Shows (chan w c .status) → latchOf w (step c e .chip) ≡ true
-    → Shows (chan w (step c e .chip) .status)
+pub event-shown : (w : Which) (c : Chip) (e : Event) → latchOf w c ≡ true → Shows (chan w c .status) → latchOf w (happens c e .chip) ≡ true
+    → Shows (chan w (happens c e .chip) .status)
 unfolding controlWrite controlWriteA controlReadCall dataWriteCall dataReadCall dataRead transmitCall transmitTick receiveCall receiveTick linesCall linesSet
 event-shown A c HardReset l h = λ z e. void e
 event-shown B c HardReset l h = λ z e. void e
@@ -232,7 +232,7 @@ reset-channel c s p l =
     rw x (refl, l, settled-shown d d h l)
 
 pub reset-seen : (w : Which) (c : Chip) → chan w c .pointer ≡ 0 → latchOf w c ≡ true
-    → let d = chan w (step c (ControlWrite (number w) resetStatus) .chip) in (d .pointer ≡ 0) × LatchSet d × StatusShows d
+    → let d = chan w (happens c (ControlWrite (number w) resetStatus) .chip) in (d .pointer ≡ 0) × LatchSet d × StatusShows d
 unfolding controlWrite controlWriteA
 reset-seen A c p l = let x : eqb (c .a .pointer) 0 ≡ true = ap (λ (n : ℕ). eqb n 0) p in rw x (reset-channel (c .a) channels.A p l)
 reset-seen B c p l = reset-channel (c .b) channels.B p l

@@ -1,26 +1,20 @@
--- The sender's side of a channel: its sender, and what SDLC heeds of its settings. What an event is to it, and the line bits, ticks and
--- states of a story. Assumes nothing.
+-- The sender's side of a channel: its sender, and what SDLC heeds of its settings. Assumes nothing.
 use mathlib.Core.Path.{_≡_, ap}
 use mathlib.Core.Bool.{Bool, true, false}
-use mathlib.Core.List.{List, [], _∷_, _++_}
-use Prim.Native.Nat.{ℕ, _+_}
-use lib.Dec.{eqb}
+use Prim.Native.Nat.{ℕ}
 use Rattle.common.specs.Choice.{if_then_else_}
 use Rattle.common.specs.Tools.{eqb-elim}
 use Rattle.common.specs.declared.Mode.{Mode}
 use Rattle.common.specs.declared.Mode.the-variants.{Sdlc}
-use Rattle.line.specs.Bits.{oneIf}
 use Rattle.sender.specs.declared.Sender.{Sender}
 use Rattle.sender.specs.declared.Sending.{Sending}
 use Rattle.settings.specs.Settings.{sendingOf}
 use Rattle.channel.specs.declared.Channel.{Channel}
-use Rattle.channel.specs.declared.Answer.{Answer}
-use Rattle.channel.specs.declared.Answer.the-variants.{Done, Gave, Refused}
 use Rattle.chip.specs.declared.Chip.{Chip}
-use Rattle.chip.specs.Chip.{onLevel}
-use Rattle.chip.specs.Event.{Event, HardReset, ControlWrite, ControlRead, DataWrite, DataRead, Transmit, Receive, SetLines, Acknowledge, Reti, step}
+use Rattle.chip.specs.Event.{Event, HardReset, ControlWrite, ControlRead, DataWrite, DataRead, Transmit, Receive, SetLines, Acknowledge, Reti}
 use Rattle.come.specs.Come.{Good}
-use Rattle.demands.specs.Story.{Which, number, chan}
+use Rattle.stories.specs.Story.{Which, number, chan}
+use Rattle.stories.specs.Sent.{Role, Ticks, Writes, Else, role}
 
 -- what SDLC heeds of the settings: "In SDLC all characters have eight bits and no parity .. no matter what WR3, WR4, WR5 and WR7 hold"
 pub record Heeded : Type 0 where
@@ -69,26 +63,7 @@ fullOf w c = chan w c .sender .core .full
 abbrev pub latchOf : Which → Chip → Bool
 latchOf w c = chan w c .sender .core .latch
 
--- What an event is to this sender: a tick, a data write, or something else. A refused call is something else
-
-pub data Role : Type 0 where
-  Ticks : Role
-  Writes : ℕ → Role
-  Else : Role
-
-abbrev pub role : Which → Event → Role
-role w HardReset = Else
-role w (ControlWrite ch v) = Else
-role w (ControlRead ch) = Else
-role w (DataWrite ch v) = if eqb ch (number w) then Writes v else Else
-role w (DataRead ch) = Else
-role w (Transmit ch) = if eqb ch (number w) then Ticks else Else
-role w (Receive ch bit) = Else
-role w (SetLines ch dcd cts) = Else
-role w Acknowledge = Else
-role w Reti = Else
-
--- the same as something to match on: a proof by roles has three cases, whatever the number of events
+-- What an event is to this sender, as something to match on: a proof by roles has three cases, whatever the number of events
 pub data View (w : Which) : Event → Role → Type 0 where
   its-tick : View w (Transmit (number w)) Ticks
   its-write : {v : ℕ} → View w (DataWrite (number w) v) (Writes v)
@@ -105,27 +80,3 @@ view w (Receive ch bit) = other
 view w (SetLines ch dcd cts) = other
 view w Acknowledge = other
 view w Reti = other
-
--- The line of a story: the bits that the ticks of this channel give, and how many they are
-
-abbrev pub ticksBy : Role → Bool
-ticksBy Ticks = true
-ticksBy (Writes v) = false
-ticksBy Else = false
-
-abbrev pub isTick : Which → Event → Bool
-isTick w e = ticksBy (role w e)
-
-abbrev pub lineBit : Bool → Answer → List Bool
-lineBit false a = []
-lineBit true Done = []
-lineBit true (Gave v) = onLevel v ∷ []
-lineBit true (Refused k) = []
-
-unfoldable pub lineOf : Which → Chip → List Event → List Bool
-lineOf w c [] = []
-lineOf w c (e ∷ st) = lineBit (isTick w e) (step c e .answer) ++ lineOf w (step c e .chip) st
-
-unfoldable pub ticks : Which → List Event → ℕ
-ticks w [] = 0
-ticks w (e ∷ st) = oneIf (isTick w e) + ticks w st

@@ -6,7 +6,6 @@ use mathlib.Core.List.{List, [], _∷_, _++_}
 use Prim.Native.Nat.{ℕ, _+_, _-_, _*_, _/_, _≤_, _<_}
 use lib.ListN.{length, take, drop, replicate}
 use Rattle.common.specs.declared.Mode.the-variants.{Sdlc}
-use Rattle.line.specs.Bits.{odd}
 use Rattle.line.specs.Check.{ones}
 use Rattle.line.specs.Frame.{flagBits, frame, zerosOf}
 use Rattle.sender.specs.declared.LineUnit.{LineUnit}
@@ -17,20 +16,21 @@ use Rattle.queue.specs.Laws.{Holds}
 use Rattle.receiver.specs.declared.Receiving.{Receiving}
 use Rattle.receiver.specs.declared.Receiver.{Receiver}
 use Rattle.settings.specs.Settings.{commandIn}
-use Rattle.channel.specs.Answer.{answerValue}
 use Rattle.chip.specs.declared.Chip.{Chip}
-use Rattle.chip.specs.Event.{Event, ControlWrite, ControlRead, DataWrite, Transmit, step}
+use Rattle.chip.specs.Event.{Event, ControlWrite, DataWrite, Transmit}
 use Rattle.come.specs.Come.{Good}
 use Rattle.come.specs.Stage.{sinceAfter, inTime}
 use Rattle.come.specs.Start.{flagHead}
-use Rattle.demands.specs.Story.{Which, number, chan, after}
+use Rattle.stories.specs.Story.{Which, number, chan, happens, after}
+use Rattle.stories.specs.Sent.{Else, role, isTick, lineOf, ticks, d6, resetStatus}
+use Rattle.stories.specs.Received.{bitsOf}
 use Rattle.demands.specs.Receiving.Statement as receiving
 use Rattle.demands.specs.Receiving.Heard.{hearAll}
 use Rattle.demands.specs.Receiving.Deaf.{flagFree, endMarks, NoEndTold}
-use Rattle.demands.specs.Sending.Side.{sendingIn, sideOf, fullOf, latchOf, Else, role, isTick, lineOf, ticks}
+use Rattle.demands.specs.Sending.Side.{sendingIn, sideOf, fullOf, latchOf}
 
 -- "Start during a flag with the SDLC sender on .., buffer empty, check preset to ones and included, underrun latch cleared, no break since it
--- began": p of the flag's bits are sent. The last line is so of every chip that came from a reset by events
+-- began": p of the flag's bits are sent. The last line is so of every chip that came from a reset by events: `start-of` in Frame
 pub record Start (w : Which) (c : Chip) (p : ℕ) : Type 0 where
   pub some : 1 ≤ p
   pub inside : p ≤ 8
@@ -46,15 +46,15 @@ pub record Start (w : Which) (c : Chip) (p : ℕ) : Type 0 where
 -- the story ends. Whatever leaves the sender's side as it is may happen at any moment, on either channel
 pub data InTime (w : Which) (left : List ℕ) : Chip → ℕ → List ℕ → List Event → Type 0 where
   over : {c : Chip} {n : ℕ} → InTime w left c n left []
-  still : {c : Chip} {n : ℕ} {rest : List ℕ} {e : Event} {st : List Event} → role w e ≡ Else → sideOf w (step c e .chip) ≡ sideOf w c
-      → InTime w left (step c e .chip) n rest st → InTime w left c n rest (e ∷ st)
+  still : {c : Chip} {n : ℕ} {rest : List ℕ} {e : Event} {st : List Event} → role w e ≡ Else → sideOf w (happens c e .chip) ≡ sideOf w c
+      → InTime w left (happens c e .chip) n rest st → InTime w left c n rest (e ∷ st)
   writes : {c : Chip} {n v : ℕ} {rest : List ℕ} {st : List Event} → fullOf w c ≡ false
-      → InTime w left (step c (DataWrite (number w) v) .chip) n rest st → InTime w left c n (v ∷ rest) (DataWrite (number w) v ∷ st)
+      → InTime w left (happens c (DataWrite (number w) v) .chip) n rest st → InTime w left c n (v ∷ rest) (DataWrite (number w) v ∷ st)
   -- once the latch is set all is sent but check and closing flag: a byte that is written now is another frame's
   next-frame : {c : Chip} {n v : ℕ} {st : List Event} → latchOf w c ≡ true
-      → InTime w left (step c (DataWrite (number w) v) .chip) n [] st → InTime w left c n [] (DataWrite (number w) v ∷ st)
+      → InTime w left (happens c (DataWrite (number w) v) .chip) n [] st → InTime w left c n [] (DataWrite (number w) v ∷ st)
   ticking : {c : Chip} {n : ℕ} {rest : List ℕ} {st : List Event} → inTime (fullOf w c) n rest ≡ true
-      → InTime w left (step c (Transmit (number w)) .chip) (sinceAfter (fullOf w c) (fullOf w (step c (Transmit (number w)) .chip)) n) rest st
+      → InTime w left (happens c (Transmit (number w)) .chip) (sinceAfter (fullOf w c) (fullOf w (happens c (Transmit (number w)) .chip)) n) rest st
       → InTime w left c n rest (Transmit (number w) ∷ st)
 
 -- "From that flag to the closing one the line is the frame of exactly those bytes, in 8(n+2)+16+z ticks, z the zeros inserted". The flag's p bits
@@ -104,19 +104,15 @@ pub record RunsDry (w : Which) (c : Chip) : Type 0 where
   pub cleared : latchOf w c ≡ false
   pub settings : Good (sendingIn (chan w c))
 
--- RR0 D6, as a control read gives it
-abbrev pub d6 : Which → Chip → Bool
-d6 w c = odd (answerValue (step c (ControlRead (number w)) .answer) / 64)
-
 abbrev pub statusLatched : Which → Chip → Bool
 statusLatched w c = chan w c .status .latched
 
 -- "the underrun latch is set on that tick, shown then unless status was latched", in which case D6 reads as before
 pub record Underrun (w : Which) (c : Chip) : Type 0 where
   pub was : latchOf w c ≡ false
-  pub set : latchOf w (step c (Transmit (number w)) .chip) ≡ true
-  pub shown : statusLatched w c ≡ false → d6 w (step c (Transmit (number w)) .chip) ≡ true
-  pub held : statusLatched w c ≡ true → d6 w (step c (Transmit (number w)) .chip) ≡ d6 w c
+  pub set : latchOf w (happens c (Transmit (number w)) .chip) ≡ true
+  pub shown : statusLatched w c ≡ false → d6 w (happens c (Transmit (number w)) .chip) ≡ true
+  pub held : statusLatched w c ≡ true → d6 w (happens c (Transmit (number w)) .chip) ≡ d6 w c
 
 abbrev pub UnderrunShown : Type 0
 UnderrunShown = (w : Which) (c : Chip) → chan w c .pointer ≡ 0 → RunsDry w c → Underrun w c
@@ -124,20 +120,20 @@ UnderrunShown = (w : Which) (c : Chip) → chan w c .pointer ≡ 0 → RunsDry w
 -- a host that ticks and writes as it likes, in time or not; all else leaves the sender's side as it is
 pub data Free (w : Which) : Chip → List Event → Type 0 where
   ended : {c : Chip} → Free w c []
-  still : {c : Chip} {e : Event} {st : List Event} → role w e ≡ Else → sideOf w (step c e .chip) ≡ sideOf w c → Free w (step c e .chip) st → Free w c (e ∷ st)
-  writes : {c : Chip} {v : ℕ} {st : List Event} → Free w (step c (DataWrite (number w) v) .chip) st → Free w c (DataWrite (number w) v ∷ st)
-  ticking : {c : Chip} {st : List Event} → Free w (step c (Transmit (number w)) .chip) st → Free w c (Transmit (number w) ∷ st)
+  still : {c : Chip} {e : Event} {st : List Event} → role w e ≡ Else → sideOf w (happens c e .chip) ≡ sideOf w c → Free w (happens c e .chip) st → Free w c (e ∷ st)
+  writes : {c : Chip} {v : ℕ} {st : List Event} → Free w (happens c (DataWrite (number w) v) .chip) st → Free w c (DataWrite (number w) v ∷ st)
+  ticking : {c : Chip} {st : List Event} → Free w (happens c (Transmit (number w)) .chip) st → Free w c (Transmit (number w) ∷ st)
 
 -- "the frame holds just the bytes loaded so far": the line runs dry behind the story xs, and the host does as it likes from there on
 abbrev pub FedLate : Type 0
 FedLate = (w : Which) (c : Chip) (p v : ℕ) (vs : List ℕ) (xs ys : List Event) → Start w c p → InTime w [] c (p - 1) (v ∷ vs) xs → RunsDry w (after c xs)
-    → Free w (step (after c xs) (Transmit (number w)) .chip) ys
+    → Free w (happens (after c xs) (Transmit (number w)) .chip) ys
     → p + ticks w (xs ++ (Transmit (number w) ∷ ys)) ≡ 8 * (length (v ∷ vs) + 2) + 16 + zerosOf (v ∷ vs)
     → flagHead p ++ lineOf w c (xs ++ (Transmit (number w) ∷ ys)) ≡ frame (v ∷ vs)
 
 -- and D6 reads 1 from that tick on, at every moment until the host clears the latch, if status was not latched when the line ran dry
 abbrev pub UnderrunSeen : Type 0
-UnderrunSeen = (w : Which) (c : Chip) (ys : List Event) → RunsDry w c → statusLatched w c ≡ false → Free w (step c (Transmit (number w)) .chip) ys
+UnderrunSeen = (w : Which) (c : Chip) (ys : List Event) → RunsDry w c → statusLatched w c ≡ false → Free w (happens c (Transmit (number w)) .chip) ys
     → let d = after c (Transmit (number w) ∷ ys) in chan w d .pointer ≡ 0 → d6 w d ≡ true
 
 -- "One morning the planner fed the software chip late. The line ran dry .., the frame closed with a good check, and the underrun bit on which the
@@ -152,7 +148,7 @@ pub record Incident (w : Which) (c : Chip) (meant : List ℕ) (xs ys : List Even
   pub fewer : length (v ∷ vs) < length meant
   pub dry : RunsDry w (after c xs)
   pub unlatched : statusLatched w (after c xs) ≡ false
-  pub late : Free w (step (after c xs) (Transmit (number w)) .chip) ys
+  pub late : Free w (happens (after c xs) (Transmit (number w)) .chip) ys
   pub closed : flagHead p ++ lineOf w c (xs ++ (Transmit (number w) ∷ ys)) ≡ frame (v ∷ vs)
   pub looks : chan w (after c (xs ++ (Transmit (number w) ∷ ys))) .pointer ≡ 0
   pub unseen : d6 w (after c (xs ++ (Transmit (number w) ∷ ys))) ≡ false
@@ -161,19 +157,16 @@ abbrev pub NoIncident : Type 0
 NoIncident = (w : Which) (c : Chip) (meant : List ℕ) (xs ys : List Event) → Incident w c meant xs ys → ⊥
 
 -- a host whose status was latched reads D6 as 1 behind its next Reset External/Status
-abbrev pub resetStatus : ℕ
-resetStatus = 0b10000
-
 abbrev pub ResetShows : Type 0
-ResetShows = (w : Which) (c : Chip) → chan w c .pointer ≡ 0 → latchOf w c ≡ true → d6 w (step c (ControlWrite (number w) resetStatus) .chip) ≡ true
+ResetShows = (w : Which) (c : Chip) → chan w c .pointer ≡ 0 → latchOf w c ≡ true → d6 w (happens c (ControlWrite (number w) resetStatus) .chip) ≡ true
 
 -- The same for every story of a host that ticks and writes as it likes and whose status is not latched at a tick while the latch is clear:
 -- as long as it reads D6 as 0, no bit of a check and none of a closing flag has gone out
 pub data Watched (w : Which) : Chip → List Event → Type 0 where
   ended : {c : Chip} → Watched w c []
-  still : {c : Chip} {e : Event} {st : List Event} → role w e ≡ Else → sideOf w (step c e .chip) ≡ sideOf w c → Watched w (step c e .chip) st → Watched w c (e ∷ st)
-  writes : {c : Chip} {v : ℕ} {st : List Event} → Watched w (step c (DataWrite (number w) v) .chip) st → Watched w c (DataWrite (number w) v ∷ st)
-  ticking : {c : Chip} {st : List Event} → (latchOf w c ≡ false → statusLatched w c ≡ false) → Watched w (step c (Transmit (number w)) .chip) st
+  still : {c : Chip} {e : Event} {st : List Event} → role w e ≡ Else → sideOf w (happens c e .chip) ≡ sideOf w c → Watched w (happens c e .chip) st → Watched w c (e ∷ st)
+  writes : {c : Chip} {v : ℕ} {st : List Event} → Watched w (happens c (DataWrite (number w) v) .chip) st → Watched w c (DataWrite (number w) v ∷ st)
+  ticking : {c : Chip} {st : List Event} → (latchOf w c ≡ false → statusLatched w c ≡ false) → Watched w (happens c (Transmit (number w)) .chip) st
       → Watched w c (Transmit (number w) ∷ st)
 
 -- an opening flag or a byte is under way
@@ -210,13 +203,13 @@ UnitKept w c d =
 
 pub data LeftToRun (w : Which) : Chip → List Event → Type 0 where
   ended : {c : Chip} → LeftToRun w c []
-  kept : {c : Chip} {e : Event} {st : List Event} → isTick w e ≡ false → UnitKept w c (step c e .chip) → LeftToRun w (step c e .chip) st → LeftToRun w c (e ∷ st)
-  ticking : {c : Chip} {st : List Event} → LeftToRun w (step c (Transmit (number w)) .chip) st → LeftToRun w c (Transmit (number w) ∷ st)
+  kept : {c : Chip} {e : Event} {st : List Event} → isTick w e ≡ false → UnitKept w c (happens c e .chip) → LeftToRun w (happens c e .chip) st → LeftToRun w c (e ∷ st)
+  ticking : {c : Chip} {st : List Event} → LeftToRun w (happens c (Transmit (number w)) .chip) st → LeftToRun w c (Transmit (number w) ∷ st)
 
 -- behind the story xs the host writes v to WR0
 pub record Aborted (w : Which) (c : Chip) (p : ℕ) (xs : List Event) (v : ℕ) : Type 0 where
   -- eight ones and a new flag follow what was sent: "bytes written after the abort belong to another frame"
-  pub line : (ys : List Event) → LeftToRun w (step (after c xs) (ControlWrite (number w) v) .chip) ys → ticks w ys ≤ 16
+  pub line : (ys : List Event) → LeftToRun w (happens (after c xs) (ControlWrite (number w) v) .chip) ys → ticks w ys ≤ 16
       → lineOf w c (xs ++ (ControlWrite (number w) v ∷ ys)) ≡ lineOf w c xs ++ take (ticks w ys) (replicate 8 true ++ flagBits)
   -- "a receiver that was listening never reports an end for the frame which that flag opened": whatever its state, behind that flag, or what was
   -- sent of it, no end mark is handed over up to and including the next flag, zs being the bits between and b the last of that flag
@@ -237,5 +230,5 @@ AbortUntold = (w : Which) (c : Chip) (p v : ℕ) (vs left : List ℕ) (xs : List
     → (u : Which) (r : Chip) (rs : List Event) (parity overrun : Bool) (es : List Entry) (zs : List Bool) (b : Bool)
     → receiving.sideOf u r .settings .mode ≡ Sdlc → receiving.sideOf u r .settings .on ≡ true → chan u r .receiver .content .ones ≡ 0
     → Holds parity overrun (chan u r .queue) es → endMarks es ≡ 0 → receiving.Fed u r rs
-    → receiving.bitsOf u rs ≡ drop 8 (flagHead p ++ lineOf w c xs) ++ (replicate 8 true ++ (zs ++ (b ∷ []))) → flagFree 7 zs ≡ true
+    → bitsOf u rs ≡ drop 8 (flagHead p ++ lineOf w c xs) ++ (replicate 8 true ++ (zs ++ (b ∷ []))) → flagFree 7 zs ≡ true
     → NoEndTold u r rs parity overrun

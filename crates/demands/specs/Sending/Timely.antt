@@ -8,12 +8,13 @@ use lib.ListN.{length}
 use borrow.Author.Tests.{eqb-true}
 use Rattle.line.specs.Frame.{frame, zerosOf}
 use Rattle.chip.specs.declared.Chip.{Chip}
-use Rattle.chip.specs.Event.{Event, step}
+use Rattle.chip.specs.Event.{Event}
 use Rattle.come.specs.Stage.{sinceAfter, inTime}
 use Rattle.come.specs.Start.{flagHead}
 use Rattle.come.specs.Laws.{void}
-use Rattle.demands.specs.Story.{Which}
-use Rattle.demands.specs.Sending.Side.{SenderSide, fullOf, latchOf, Role, Ticks, Writes, Else, role, View, its-tick, its-write, other, view, ticksBy, lineOf, ticks}
+use Rattle.stories.specs.Story.{Which, happens}
+use Rattle.stories.specs.Sent.{Role, Ticks, Writes, Else, role, ticksBy, lineOf, ticks}
+use Rattle.demands.specs.Sending.Side.{SenderSide, fullOf, latchOf, View, its-tick, its-write, other, view}
 use Rattle.demands.specs.Sending.Quiet.{quiet, quiet-keeps, and-l, and-r}
 use Rattle.demands.specs.Sending.Statement.{Start, InTime, over, still, writes, next-frame, ticking, statusLatched, Free, Watched, LeftToRun}
 use Rattle.demands.specs.Sending.Statement as stated
@@ -45,7 +46,7 @@ unfoldable pub timely : Which → Chip → ℕ → List ℕ → List Event → B
 timely w c n rest [] = allWritten rest
 timely w c n rest (e ∷ st) =
     allowed w c n rest e (role w e)
-    && timely w (step c e .chip) (since (role w e) (fullOf w c) (fullOf w (step c e .chip)) n) (unwritten (role w e) rest) st
+    && timely w (happens c e .chip) (since (role w e) (fullOf w c) (fullOf w (happens c e .chip)) n) (unwritten (role w e) rest) st
 
 not-true : (t : Bool) → not t ≡ true → t ≡ false
 not-true true e = sym e
@@ -53,7 +54,7 @@ not-true false e = refl
 
 -- one event, by its role; what follows is handed in
 one-more : (w : Which) (c : Chip) (n : ℕ) (rest : List ℕ) (e : Event) (st : List Event) (r : Role) → View w e r → role w e ≡ r → allowed w c n rest e r ≡ true
-    → InTime w [] (step c e .chip) (since r (fullOf w c) (fullOf w (step c e .chip)) n) (unwritten r rest) st → InTime w [] c n rest (e ∷ st)
+    → InTime w [] (happens c e .chip) (since r (fullOf w c) (fullOf w (happens c e .chip)) n) (unwritten r rest) st → InTime w [] c n rest (e ∷ st)
 one-more w c n rest _ st Ticks its-tick q a i = ticking a i
 one-more w c n [] _ st (Writes b) its-write q a i = next-frame a i
 one-more w c n (v ∷ rest) _ st (Writes b) its-write q a i =
@@ -68,10 +69,10 @@ in-time w c n [] [] t = over
 in-time w c n (v ∷ rest) [] t = void t
 in-time w c n rest (e ∷ st) t =
     let r = role w e in
-    let m = since r (fullOf w c) (fullOf w (step c e .chip)) n in
-    let a = and-l (allowed w c n rest e r) (timely w (step c e .chip) m (unwritten r rest) st) t in
-    let b = and-r (allowed w c n rest e r) (timely w (step c e .chip) m (unwritten r rest) st) t in
-    one-more w c n rest e st r (view w e) refl a (in-time w (step c e .chip) m (unwritten r rest) st b)
+    let m = since r (fullOf w c) (fullOf w (happens c e .chip)) n in
+    let a = and-l (allowed w c n rest e r) (timely w (happens c e .chip) m (unwritten r rest) st) t in
+    let b = and-r (allowed w c n rest e r) (timely w (happens c e .chip) m (unwritten r rest) st) t in
+    one-more w c n rest e st r (view w e) refl a (in-time w (happens c e .chip) m (unwritten r rest) st b)
 
 -- demand 3 with the test
 pub demand3-tested : (w : Which) (c : Chip) (p v : ℕ) (vs : List ℕ) (st : List Event) → Start w c p → timely w c (p - 1) (v ∷ vs) st ≡ true
@@ -88,9 +89,9 @@ free w c e Else = quiet w c e
 
 unfoldable pub freely : Which → Chip → List Event → Bool
 freely w c [] = true
-freely w c (e ∷ st) = free w c e (role w e) && freely w (step c e .chip) st
+freely w c (e ∷ st) = free w c e (role w e) && freely w (happens c e .chip) st
 
-one-free : (w : Which) (c : Chip) (e : Event) (st : List Event) (r : Role) → View w e r → role w e ≡ r → free w c e r ≡ true → Free w (step c e .chip) st → Free w c (e ∷ st)
+one-free : (w : Which) (c : Chip) (e : Event) (st : List Event) (r : Role) → View w e r → role w e ≡ r → free w c e r ≡ true → Free w (happens c e .chip) st → Free w c (e ∷ st)
 one-free w c _ st Ticks its-tick q a f = stated.ticking f
 one-free w c _ st (Writes b) its-write q a f = stated.writes f
 one-free w c e st Else other q a f = stated.still q (quiet-keeps w c e a) f
@@ -100,8 +101,8 @@ unfolding freely
 free-of w c [] t = stated.ended
 free-of w c (e ∷ st) t =
     let r = role w e in
-    one-free w c e st r (view w e) refl (and-l (free w c e r) (freely w (step c e .chip) st) t)
-    (free-of w (step c e .chip) st (and-r (free w c e r) (freely w (step c e .chip) st) t))
+    one-free w c e st r (view w e) refl (and-l (free w c e r) (freely w (happens c e .chip) st) t)
+    (free-of w (happens c e .chip) st (and-r (free w c e r) (freely w (happens c e .chip) st) t))
 
 -- one whose status is not latched at a tick while the latch is clear
 abbrev pub seeing : Which → Chip → Event → Role → Bool
@@ -111,13 +112,13 @@ seeing w c e Else = quiet w c e
 
 unfoldable pub watching : Which → Chip → List Event → Bool
 watching w c [] = true
-watching w c (e ∷ st) = seeing w c e (role w e) && watching w (step c e .chip) st
+watching w c (e ∷ st) = seeing w c e (role w e) && watching w (happens c e .chip) st
 
 unlatched : (l s : Bool) → l || not s ≡ true → l ≡ false → s ≡ false
 unlatched true s t e = void (sym e)
 unlatched false s t e = not-true s t
 
-one-seen : (w : Which) (c : Chip) (e : Event) (st : List Event) (r : Role) → View w e r → role w e ≡ r → seeing w c e r ≡ true → Watched w (step c e .chip) st → Watched w c (e ∷ st)
+one-seen : (w : Which) (c : Chip) (e : Event) (st : List Event) (r : Role) → View w e r → role w e ≡ r → seeing w c e r ≡ true → Watched w (happens c e .chip) st → Watched w c (e ∷ st)
 one-seen w c _ st Ticks its-tick q a f = stated.ticking (unlatched (latchOf w c) (statusLatched w c) a) f
 one-seen w c _ st (Writes b) its-write q a f = stated.writes f
 one-seen w c e st Else other q a f = stated.still q (quiet-keeps w c e a) f
@@ -127,8 +128,8 @@ unfolding watching
 watched-of w c [] t = stated.ended
 watched-of w c (e ∷ st) t =
     let r = role w e in
-    one-seen w c e st r (view w e) refl (and-l (seeing w c e r) (watching w (step c e .chip) st) t)
-    (watched-of w (step c e .chip) st (and-r (seeing w c e r) (watching w (step c e .chip) st) t))
+    one-seen w c e st r (view w e) refl (and-l (seeing w c e r) (watching w (happens c e .chip) st) t)
+    (watched-of w (happens c e .chip) st (and-r (seeing w c e r) (watching w (happens c e .chip) st) t))
 
 -- such a host leaves an abort to run
 pub free-runs : (w : Which) {c : Chip} {st : List Event} → Free w c st → LeftToRun w c st

@@ -24,15 +24,16 @@ use Rattle.sender.specs.declared.Ticked.{Ticked}
 use Rattle.sender.specs.Sender.{core, sender, ticked, startByte, flagBit, tick, written}
 use Rattle.sender.specs.Laws.Tick.{tick-owed, tick-flag, tick-byte, tick-chooses, next-flag-full, next-flag-empty, next-byte-full, next-byte-check}
 use Rattle.chip.specs.declared.Chip.{Chip}
-use Rattle.chip.specs.Event.{Event, DataWrite, Transmit, step}
+use Rattle.chip.specs.Event.{Event, DataWrite, Transmit}
 use Rattle.come.specs.Come.{Good, flagTail}
 use Rattle.come.specs.Laws.{void, in-sdlc, start-byte}
 use Rattle.come.specs.Start.{started, flagHead, head-tail}
-use Rattle.demands.specs.Story.{Which, number, chan, after}
+use Rattle.stories.specs.Story.{Which, number, chan, happens, after}
+use Rattle.stories.specs.Sent.{ticksBy, lineOf, d6}
 use Rattle.demands.specs.Receiving.Deaf.{flagEnds, onesAfter, onesOver, flagFree, lead, content-free}
-use Rattle.demands.specs.Sending.Side.{Heeded, good, good-of, good-heeded, SenderSide, side, sendingIn, sideOf, latchOf, ticksBy, lineOf}
+use Rattle.demands.specs.Sending.Side.{Heeded, good, good-of, good-heeded, SenderSide, side, sendingIn, sideOf, latchOf}
 use Rattle.demands.specs.Sending.Quiet.{and-l, and-r}
-use Rattle.demands.specs.Sending.Statement.{Start, d6, Watched, opens, FrameSeen}
+use Rattle.demands.specs.Sending.Statement.{Start, Watched, opens, FrameSeen}
 use Rattle.demands.specs.Sending.Statement as stated
 use Rattle.demands.specs.Sending.Frame.{tick-side, tick-bit, write-side, write-no-tick, skip-line, start-side}
 use Rattle.demands.specs.Sending.Shown.{shows-read}
@@ -175,13 +176,13 @@ stays-set w (stated.ticking {c = c} u f) e l = stays-set w f (tick-heeds w c e) 
 
 -- a tick, from what is so behind it
 tick-unclosed : (w : Which) (c : Chip) (st : List Event) (s : Sender) (o g : ℕ) → sideOf w c ≡ side s good → Goes (sendingIn (chan w c)) s o g
-    → let d = step c (Transmit (number w)) .chip in
+    → let d = happens c (Transmit (number w)) .chip in
     ((t : Sender) (p q : ℕ) → sideOf w d ≡ side t good → Opened t p q → unclosed p q (lineOf w d st) ≡ true) → (latchOf w d ≡ true → ⊥)
     → unclosed o g (lineOf w c (Transmit (number w) ∷ st)) ≡ true
 unfolding lineOf
 tick-unclosed w c st s o g e (goes bit loaded t p q a m n) i z =
     let j = sendingIn (chan w c) in
-    let d = step c (Transmit (number w)) .chip in
+    let d = happens c (Transmit (number w)) .chip in
     let r : tick j (chan w c .sender) ≡ ticked bit loaded t = ap (λ (x : SenderSide). tick j (x .sender)) e ∙ a in
     ap (λ (b : List Bool). unclosed o g (b ++ lineOf w d st)) (tick-bit w c ∙ ap (λ (x : Ticked). x .bit ∷ []) r)
     ∙ n (lineOf w d st)

@@ -20,12 +20,13 @@ use Rattle.channel.specs.Channel.{settled}
 use Rattle.channel.specs.Events.{transmitTick}
 use Rattle.chip.specs.declared.Chip.{Chip}
 use Rattle.chip.specs.Chip.{transmitCall}
-use Rattle.chip.specs.Event.{Event, ControlWrite, DataWrite, Transmit, step}
+use Rattle.chip.specs.Event.{Event, ControlWrite, DataWrite, Transmit}
 use Rattle.come.specs.Come.{Good}
 use Rattle.come.specs.Laws.{void, in-sdlc}
-use Rattle.demands.specs.Story.{Which, A, B, number, chan, after, after-join}
+use Rattle.stories.specs.Story.{Which, A, B, number, chan, happens, after, after-join}
+use Rattle.stories.specs.Sent.{d6, resetStatus}
 use Rattle.demands.specs.Sending.Side.{Heeded, good, good-of, good-heeded, SenderSide, sendingIn, sideOf, latchOf}
-use Rattle.demands.specs.Sending.Statement.{InTime, over, still, writes, next-frame, ticking, RunsDry, d6, statusLatched, UnderrunShown, Free, FedLate, UnderrunSeen, NoIncident, resetStatus, ResetShows, Watched, opens, NotClosed, NeverUnseen}
+use Rattle.demands.specs.Sending.Statement.{InTime, over, still, writes, next-frame, ticking, RunsDry, statusLatched, UnderrunShown, Free, FedLate, UnderrunSeen, NoIncident, ResetShows, Watched, opens, NotClosed, NeverUnseen}
 use Rattle.demands.specs.Sending.Statement as stated
 use Rattle.demands.specs.Sending.Frame.{tick-side, write-side, demand3}
 use Rattle.demands.specs.Sending.Shown.{d6-read, Shows, shows-read, unlatched-shows, tick-shown, event-shown, reset-seen}
@@ -39,7 +40,7 @@ module _ (g : Sending) (h : Good g) where
       ap (λ (t : Ticked). t .sender .core .latch)
       (in-sdlc g h (sender (Byte 0 v) k) ∙ tick-chooses g k (Byte 0 v) refl ∙ next-byte-check g k (h .on) 0 v refl refl (h .included))
 
-pub dry-latch : (w : Which) (c : Chip) → RunsDry w c → latchOf w (step c (Transmit (number w)) .chip) ≡ true
+pub dry-latch : (w : Which) (c : Chip) → RunsDry w c → latchOf w (happens c (Transmit (number w)) .chip) ≡ true
 dry-latch w c d =
     let s = chan w c .sender in
     let k = s .core in
@@ -49,13 +50,13 @@ dry-latch w c d =
     ∙ ap (λ (x : Sender). tick (sendingIn (chan w c)) x .sender .core .latch) e
     ∙ dry-sets (sendingIn (chan w c)) (d .settings) (d .last) (k .run) (k .buffer) (k .check)
 
-tick-pointer : (w : Which) (c : Chip) → chan w (step c (Transmit (number w)) .chip) .pointer ≡ chan w c .pointer
+tick-pointer : (w : Which) (c : Chip) → chan w (happens c (Transmit (number w)) .chip) .pointer ≡ chan w c .pointer
 unfolding transmitCall transmitTick settled
 tick-pointer A c = refl
 tick-pointer B c = refl
 
 -- status that is latched stays as it is
-tick-held : (w : Which) (c : Chip) → statusLatched w c ≡ true → chan w (step c (Transmit (number w)) .chip) .status ≡ chan w c .status
+tick-held : (w : Which) (c : Chip) → statusLatched w c ≡ true → chan w (happens c (Transmit (number w)) .chip) .status ≡ chan w c .status
 unfolding transmitCall transmitTick settled noticed
 tick-held A c n = rw n
 tick-held B c n = rw n
@@ -65,7 +66,7 @@ latched-read w c p n = d6-read w c p ∙ rw n
 
 pub underrun : UnderrunShown
 underrun w c p d =
-    let e = step c (Transmit (number w)) .chip in
+    let e = happens c (Transmit (number w)) .chip in
     let l = dry-latch w c d in
     let q = tick-pointer w c ∙ p in
     record {
@@ -111,17 +112,17 @@ tick-set g h s l = rw (in-sdlc g h s) (if-elim Set (s .core .owed) l (going-set 
 abbrev pub heedsOf : Which → Chip → Heeded
 heedsOf w c = sideOf w c .heeds
 
-pub tick-heeds : (w : Which) (c : Chip) → heedsOf w c ≡ good → heedsOf w (step c (Transmit (number w)) .chip) ≡ good
+pub tick-heeds : (w : Which) (c : Chip) → heedsOf w c ≡ good → heedsOf w (happens c (Transmit (number w)) .chip) ≡ good
 tick-heeds w c e = ap (λ (x : SenderSide). x .heeds) (tick-side w c) ∙ e
 
-pub write-heeds : (w : Which) (c : Chip) (v : ℕ) → heedsOf w c ≡ good → heedsOf w (step c (DataWrite (number w) v) .chip) ≡ good
+pub write-heeds : (w : Which) (c : Chip) (v : ℕ) → heedsOf w c ≡ good → heedsOf w (happens c (DataWrite (number w) v) .chip) ≡ good
 write-heeds w c v e = ap (λ (x : SenderSide). x .heeds) (write-side w c v) ∙ e
 
-pub tick-latch : (w : Which) (c : Chip) → heedsOf w c ≡ good → latchOf w c ≡ true → latchOf w (step c (Transmit (number w)) .chip) ≡ true
+pub tick-latch : (w : Which) (c : Chip) → heedsOf w c ≡ good → latchOf w c ≡ true → latchOf w (happens c (Transmit (number w)) .chip) ≡ true
 tick-latch w c e l =
     ap (λ (x : SenderSide). x .sender .core .latch) (tick-side w c) ∙ tick-set (sendingIn (chan w c)) (good-of (sendingIn (chan w c)) e) (chan w c .sender) l
 
-pub write-latch : (w : Which) (c : Chip) (v : ℕ) → latchOf w (step c (DataWrite (number w) v) .chip) ≡ latchOf w c
+pub write-latch : (w : Which) (c : Chip) (v : ℕ) → latchOf w (happens c (DataWrite (number w) v) .chip) ≡ latchOf w c
 write-latch w c v = ap (λ (x : SenderSide). x .sender .core .latch) (write-side w c v)
 
 -- Fed late: with the latch set, whatever the host does is in time, and is another frame's
@@ -142,12 +143,12 @@ in-time-join w ys (writes e i) f = writes e (in-time-join w ys i f)
 in-time-join w ys (next-frame l i) f = next-frame l (in-time-join w ys i f)
 in-time-join w ys (ticking t i) f = ticking t (in-time-join w ys i f)
 
-dry-heeds : (w : Which) (c : Chip) → RunsDry w c → heedsOf w (step c (Transmit (number w)) .chip) ≡ good
+dry-heeds : (w : Which) (c : Chip) → RunsDry w c → heedsOf w (happens c (Transmit (number w)) .chip) ≡ good
 dry-heeds w c d = tick-heeds w c (good-heeded (sendingIn (chan w c)) (d .settings))
 
 -- a story that ran dry is in time for the bytes loaded so far
 pub late-in-time : (w : Which) (c : Chip) (p v : ℕ) (vs : List ℕ) (xs ys : List Event) → InTime w [] c (p - 1) (v ∷ vs) xs → RunsDry w (after c xs)
-    → Free w (step (after c xs) (Transmit (number w)) .chip) ys → InTime w [] c (p - 1) (v ∷ vs) (xs ++ (Transmit (number w) ∷ ys))
+    → Free w (happens (after c xs) (Transmit (number w)) .chip) ys → InTime w [] c (p - 1) (v ∷ vs) (xs ++ (Transmit (number w) ∷ ys))
 late-in-time w c p v vs xs ys i d f =
     in-time-join w (Transmit (number w) ∷ ys) i (λ m. ticking refl (free-in-time w f (dry-heeds w (after c xs) d) (dry-latch w (after c xs) d) _))
 
@@ -172,7 +173,7 @@ pub underrun-seen : UnderrunSeen
 unfolding after
 underrun-seen w c ys d n f p =
     let l = dry-latch w c d in
-    let e = step c (Transmit (number w)) .chip in
+    let e = happens c (Transmit (number w)) .chip in
     let k = free-seen w f (dry-heeds w c d) l (tick-shown w c (unlatched-shows (chan w c .status) n) l) in
     shows-read w (after e ys) p (k .0) (k .1)
 
@@ -185,7 +186,7 @@ no-incident w c meant xs ys i =
 -- status that was latched shows the latch with the next Reset External/Status
 pub reset-shows : ResetShows
 reset-shows w c p l =
-    let e = step c (ControlWrite (number w) resetStatus) .chip in
+    let e = happens c (ControlWrite (number w) resetStatus) .chip in
     let k = reset-seen w c p l in
     shows-read w e (k .0) (k .1) (k .2)
 
@@ -241,7 +242,7 @@ watched-seen w (stated.writes {c = c} {v = v} f) e (shown l h) =
 watched-seen w (stated.ticking {c = c} u f) e (unclosed n) =
     watched-seen w f (tick-heeds w c e) (go (tick-went (sendingIn (chan w c)) (good-of (sendingIn (chan w c)) e) (chan w c .sender) (n .0) (n .1)))
   where
-    go : Went (tick (sendingIn (chan w c)) (chan w c .sender) .sender) → Seen w (step c (Transmit (number w)) .chip)
+    go : Went (tick (sendingIn (chan w c)) (chan w c .sender) .sender) → Seen w (happens c (Transmit (number w)) .chip)
     go (opened l o) =
         unclosed (ap (λ (x : SenderSide). x .sender .core .latch) (tick-side w c) ∙ l, ap (λ (x : SenderSide). opens (x .sender .unit)) (tick-side w c) ∙ o)
     go (latched l) =

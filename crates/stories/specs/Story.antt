@@ -4,6 +4,7 @@ use mathlib.Core.List.{List, [], _∷_, _++_}
 use Prim.Native.Nat.{ℕ}
 use Rattle.channel.specs.declared.Channel.{Channel}
 use Rattle.chip.specs.declared.Chip.{Chip}
+use Rattle.chip.specs.declared.Outcome.{Outcome}
 use Rattle.chip.specs.Event.{Event, step}
 
 -- 01, The part we model: "two channels, A (0) and B (1)"
@@ -19,12 +20,17 @@ abbrev pub chan : Which → Chip → Channel
 chan A c = c .a
 chan B c = c .b
 
+-- What an event does to a chip. Stories, and with them the theorems of the demands, speak of the chip by this name alone,
+-- so that a wrong chip can be put in its place
+abbrev pub happens : Chip → Event → Outcome
+happens c e = step c e
+
 -- the chip behind a story
 unfoldable pub after : Chip → List Event → Chip
 after c [] = c
-after c (e ∷ st) = after (step c e .chip) st
+after c (e ∷ st) = after (happens c e .chip) st
 
 pub after-join : (c : Chip) (xs ys : List Event) → after c (xs ++ ys) ≡ after (after c xs) ys
 unfolding after
 after-join c [] ys = refl
-after-join c (x ∷ xs) ys = after-join (step c x .chip) xs ys
+after-join c (x ∷ xs) ys = after-join (happens c x .chip) xs ys

@@ -1,0 +1,5 @@
+pub mod Story
+pub mod Sent
+pub mod Received
+pub mod Sending
+pub mod Receiving
