@@ -7,7 +7,8 @@ use native.Mathlib.Omega.{arith}
 use lib.Dec.{ltb}
 use lib.ListN.{length}
 use borrow.Author.Tests.{ltb-true}
-use Rattle.line.specs.Bits.{odd, lowBits, textBits, oneIf}
+use Rattle.common.specs.Tools.{void}
+use Rattle.line.specs.Bits.{odd, lowBits, textBits}
 use Rattle.line.specs.Check.{sdlc, top, shifted, complement, checkOver, topBits, checkBits}
 use Rattle.line.specs.Insertion.{owes, runAfter, zeroIf, stuff}
 use Rattle.line.specs.Frame.{flagBits}
@@ -58,10 +59,6 @@ since-same false n = refl
 
 too-late : (n : ℕ) → ltb (n + 1) 8 ≡ true → 7 ≤ n → ⊥
 too-late n e h = omega (arith, ltb-true (n + 1) 8 e)
-
--- what a false equation of Bools gives
-pub void : {X : Type 0} → false ≡ true → X
-void e = absurd (let z : _≡_ {A = ℕ} 0 1 = ap oneIf e in omega arith)
 
 -- A tick in time takes the first bit of what is to come
 

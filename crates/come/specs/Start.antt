@@ -7,6 +7,7 @@ use Prim.Native.Nat.{ℕ, zero, suc, _-_, _≤_}
 use native.Mathlib.Omega.{arith}
 use lib.Dec.{eqb, eqb·suc-zero}
 use lib.ListN.{length, take, length-append, length-take}
+use Rattle.common.specs.Tools.{void}
 use Rattle.line.specs.Bits.{lowBits, textBits}
 use Rattle.line.specs.Check.{sdlc, ones, checkOver, topBits, checkBits}
 use Rattle.line.specs.Insertion.{zeroIf, stuff}
@@ -17,7 +18,6 @@ use Rattle.sender.specs.declared.Sender.{Sender}
 use Rattle.sender.specs.Sender.{core, sender}
 use Rattle.come.specs.Come.{flagTail, waiting, closed, toCome}
 use Rattle.come.specs.Stage.{Stage, opening, inByte, inCheck, closing, cutOff}
-use Rattle.come.specs.Laws.{void}
 
 -- "Start during a flag", p of its bits sent: "buffer empty, check preset to ones .., underrun latch cleared". The buffer's old byte is b
 abbrev pub started : ℕ → ℕ → Sender

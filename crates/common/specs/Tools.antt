@@ -1,5 +1,6 @@
--- Tools for proofs: to go by a test, to go by whichever way a choice went, and a test over every number below a bound. Assumes nothing.
-use mathlib.Core.Path.{_≡_, refl}
+-- Tools for proofs: to go by a test, to go by whichever way a choice went, what a test says that came out true, and a test over every number
+-- below a bound. Assumes nothing.
+use mathlib.Core.Path.{_≡_, refl, ap}
 use mathlib.Core.Logic.{_≢_}
 use mathlib.Core.Bool.{Bool, true, false, not, Bool·beq, _&&_}
 use Prim.Native.Nat.{ℕ, zero, suc, _≤_, _<_}
@@ -7,6 +8,7 @@ use native.Mathlib.Omega.{arith}
 use lib.Dec.{T, eqb, ltb}
 use borrow.Author.Tests.{eqb-true, eqb-false, ltb-true, ltb-false, le-leb, lt-leb, le-ltb, lt-ltb, eq-eqb, ne-eqb}
 use Rattle.common.specs.Choice.{if_then_else_}
+use Rattle.common.specs.Bit.{placed}
 
 -- what a branch showed, as the value of the test that a definition makes
 pub ruleset tests = (le-leb, lt-leb, le-ltb, lt-ltb, eq-eqb, ne-eqb)
@@ -50,7 +52,24 @@ two-cases P p0 p1 zero h = p0
 two-cases P p0 p1 (suc zero) h = p1
 two-cases P p0 p1 (suc (suc n)) h = absurd (omega arith)
 
--- the two halves of a test that came out true
+-- a false equation of tests gives anything
+pub void : {X : Type 0} → false ≡ true → X
+void e = absurd (let z : _≡_ {A = ℕ} 0 1 = ap (λ b. placed b 1) e in omega arith)
+
+-- what a test says that came out true
+pub both-left : (a b : Bool) → a && b ≡ true → a ≡ true
+both-left true b e = refl
+both-left false b e = void e
+
+pub both-right : (a b : Bool) → a && b ≡ true → b ≡ true
+both-right true b e = e
+both-right false b e = void e
+
+pub not-true : (b : Bool) → not b ≡ true → b ≡ false
+not-true true e = void e
+not-true false e = refl
+
+-- the same of a test that is a type
 pub and-left : (a b : Bool) → T (a && b) → T a
 and-left true b t = tt
 and-left false b t = t

@@ -1,5 +1,5 @@
 -- Laws of the queue: what only queues with a history have, and which entries a queue holds. Assumes nothing.
-use mathlib.Core.Path.{_≡_, refl, ap}
+use mathlib.Core.Path.{_≡_, refl}
 use mathlib.Core.Bool.{Bool, true, false}
 use mathlib.Core.List.{List, [], _∷_, _++_}
 use Prim.Native.Nat.{ℕ, _≤_}
@@ -8,8 +8,7 @@ use lib.Dec.{eqb, ltb}
 use lib.ListN.{length, length-set}
 use borrow.Author.Tests.{ltb-true}
 use Rattle.common.specs.Choice.{if_then_else_}
-use Rattle.common.specs.Bit.{placed}
-use Rattle.common.specs.Tools.{by-test, if-elim}
+use Rattle.common.specs.Tools.{by-test, if-elim, void}
 use Rattle.queue.specs.Entry.{Entry, plainEntry}
 use Rattle.queue.specs.Queue.{Queue, queue, empty, room, pushed, taken, oldest, waits, errorReset, rr1Of, rr1}
 
@@ -49,9 +48,6 @@ pub data Holds (p o : Bool) : Queue → List Entry → Type 0 where
   h1 : {a b c : Entry} → Plain a → Holds p o (queue (a ∷ b ∷ c ∷ []) 1 p o) (a ∷ [])
   h2 : {a b c : Entry} → Plain a → Plain b → Holds p o (queue (a ∷ b ∷ c ∷ []) 2 p o) (a ∷ b ∷ [])
   h3 : {a b c : Entry} → Plain a → Plain b → Plain c → Holds p o (queue (a ∷ b ∷ c ∷ []) 3 p o) (a ∷ b ∷ c ∷ [])
-
-void : {X : Type 0} → false ≡ true → X
-void e = absurd (let z : _≡_ {A = ℕ} 0 1 = ap (λ b. placed b 1) e in omega arith)
 
 pub push-holds : {p o : Bool} {q : Queue} {es : List Entry} {e : Entry} → Holds p o q es → ltb (q .count) room ≡ true → Plain e → Holds p o (pushed q e) (es ++ (e ∷ []))
 unfolding pushed

@@ -9,7 +9,7 @@ use native.Mathlib.Omega.{arith}
 use lib.Dec.{eqb, leb}
 use borrow.Author.Tests.{eqb-true, le-leb, ne-eqb}
 use Rattle.common.specs.Choice.{if_then_else_}
-use Rattle.common.specs.Tools.{if-elim, by-test, bool-or}
+use Rattle.common.specs.Tools.{if-elim, by-test, bool-or, both-left}
 use Rattle.common.specs.declared.Refusal.the-variants as refusal
 use Rattle.settings.specs.Settings.{commandIn, notBuilt}
 use Rattle.channel.specs.declared.Side.{Side}
@@ -113,15 +113,11 @@ wr0-number : (x : Channel) (w : Side) (v : ℕ) → eqb (x .pointer) 0 ≡ true 
 unfolding controlWritten
 wr0-number x w v e = rw e
 
-and-first : (a b : Bool) → a && b ≡ true → a ≡ true
-and-first true b e = refl
-and-first false b e = e
-
 write-a-kept : (c : Chip) (v : ℕ) → Kept c (controlWriteA c v)
 unfolding controlWriteA
 write-a-kept c v =
     by-test (Kept c) (endsService (c .a) v)
-    (λ e. inl (wr0-number (reti c .a) A v (rw (reti-pointer c) (and-first (eqb (c .a .pointer) 0) (eqb (commandIn v) 7) e))))
+    (λ e. inl (wr0-number (reti c .a) A v (rw (reti-pointer c) (both-left (eqb (c .a .pointer) 0) (eqb (commandIn v) 7) e))))
     (λ e. in-a-kept c (controlWritten (c .a) A v) (written-kept (c .a) A v))
 
 level-kept : (c : Chip) (above : Bool) (r : Outcome) → numberIn r ≡ 0 → Kept c (if above then refused c refusal.Level else r)

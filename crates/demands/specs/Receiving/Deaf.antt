@@ -10,7 +10,7 @@ use lib.Dec.{eqb, ltb}
 use lib.ListN.{replicate}
 use borrow.Author.Tests.{ne-eqb, lt-ltb, ltb-true, ltb-false}
 use Rattle.common.specs.Choice.{if_then_else_}
-use Rattle.common.specs.Tools.{ltb-elim, by-test, if-elim}
+use Rattle.common.specs.Tools.{ltb-elim, by-test, if-elim, void, both-left, both-right}
 use Rattle.common.specs.declared.Mode.{Mode}
 use Rattle.common.specs.declared.Mode.the-variants.{Sdlc}
 use Rattle.line.specs.Bits.{oneIf}
@@ -29,7 +29,7 @@ use Rattle.chip.specs.Event.{Event}
 use Rattle.stories.specs.Story.{Which, chan, after}
 use Rattle.stories.specs.Received.{bitsOf, tookOf}
 use Rattle.demands.specs.Receiving.Statement.{Side, sideOf, Fed}
-use Rattle.demands.specs.Receiving.Tools.{void, both-left, both-right, not-true}
+use Rattle.demands.specs.Receiving.Tools.{refused-test}
 use Rattle.demands.specs.Receiving.Heard.{handed, Final, hearAll, hear-join}
 use Rattle.demands.specs.Receiving.Conserved.{conserved}
 
@@ -113,7 +113,7 @@ module _ (g : Receiving) (s : Receiver) where
   unfolding zeroBit
   zero-no-end n =
       let c = s .content in
-      by-test NoEnd (eqb (c .ones) 6) (λ t. not-true n t)
+      by-test NoEnd (eqb (c .ones) 6) (λ t. refused-test n t)
       (λ t. if-elim NoEnd (deaf c) refl (if-elim NoEnd (eqb (c .ones) 5) refl (push-no-end 0 false false)))
 
   accept-counts : (o : ℕ) (x : Bool) (d : ℕ) (b : Bool) → Counts o (accept g s o x d b)
@@ -169,7 +169,7 @@ module _ (g : Receiving) (s : Receiver) where
   zero-stays d n =
       let c = s .content in
       let P : Heard → Type 0 = λ h. Deaf (h .receiver) in
-      by-test P (eqb (c .ones) 6) (λ t. not-true n t) (λ t. by-test P (deaf c) (λ u. d) (λ u. void (sym u ∙ d)))
+      by-test P (eqb (c .ones) 6) (λ t. refused-test n t) (λ t. by-test P (deaf c) (λ u. d) (λ u. void (sym u ∙ d)))
 
   -- a seventh one: whoever listened does not any more
   one-deafens : 6 ≤ s .content .ones → Deaf (one g s .receiver)

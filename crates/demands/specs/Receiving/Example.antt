@@ -32,7 +32,7 @@ use Rattle.stories.specs.Received.{bitsOf, valuesOf, bytesOf, goodEnd, noEnd}
 use Rattle.stories.specs.Receiving.{listening, story, noise, noisy, unread, named, unflipped, flippedLine, told}
 use Rattle.demands.specs.Receiving.Statement.{sideOf, Listening, in-hunt, checkBytes, withCheck, ended, Received, Moment, framesOf, allEnded, no-more, one-more, framed, Found}
 use Rattle.demands.specs.Receiving.Room.{inRoom, fed, demand2-run}
-use Rattle.demands.specs.Receiving.Demand.{listens-again, notes2, always2, mark2}
+use Rattle.demands.specs.Receiving.Demand.{listens-again, notes2, always2, overrun-kept, mark2}
 use Rattle.demands.specs.Receiving.Flip.{flipped2}
 
 -- what is left once RR1 is named
@@ -111,6 +111,9 @@ named-moment : Moment A begin named (ended false (withCheck (0xFF ∷ [])))
 named-moment =
     always2 A begin named looks (0xFF ∷ []) (examples .listens) (omega arith) (more (omega arith) none) (fed A begin (named ++ looks) (examples .named-room))
     (examples .named-bits)
+
+named-overrun : chan A (after begin named) .queue .overrun ≡ chan A begin .queue .overrun
+named-overrun = overrun-kept A begin named (ended false (withCheck (0xFF ∷ []))) named-moment
 
 named-mark : happens (after begin named) (ControlRead 0) .answer ≡ Gave goodEnd
 named-mark =

@@ -4,7 +4,7 @@ use mathlib.Core.Bool.{Bool, true, false, not, _&&_, _||_}
 use Prim.Native.Nat.{ℕ, _/_}
 use lib.Dec.{eqb, ltb, leb}
 use Rattle.common.specs.Choice.{if_then_else_}
-use Rattle.common.specs.Tools.{by-test, if-elim}
+use Rattle.common.specs.Tools.{by-test, if-elim, void, both-left, both-right}
 use Rattle.line.specs.Bits.{odd}
 use Rattle.line.specs.Check.{differs}
 use Rattle.settings.specs.Settings.{store5, store6, store7, commandIn, presetIn, autoEnables, modeOf, lengthOf, notBuilt, receivingOf}
@@ -24,7 +24,7 @@ use Rattle.chip.specs.Event.{Event, HardReset, ControlWrite, ControlRead, DataW
 use Rattle.stories.specs.Story.{Which, A, B, chan, happens}
 use Rattle.stories.specs.Received.{here}
 use Rattle.demands.specs.Receiving.Statement.{sideIn, sideOf}
-use Rattle.demands.specs.Receiving.Tools.{void, both-left, both-right, not-true, or-right}
+use Rattle.demands.specs.Receiving.Tools.{refused-test, or-right}
 
 -- The test
 
@@ -65,11 +65,11 @@ commanded-kept : (c : Channel) (k : ℕ) → not (eqb k 6) ≡ true → KeptIn c
 unfolding commanded
 commanded-kept c k n =
     if-elim (KeptIn c) (eqb k 1) refl (if-elim (KeptIn c) (eqb k 2) refl (if-elim (KeptIn c) (eqb k 4) refl (if-elim (KeptIn c) (eqb k 5) refl
-    (by-test (KeptIn c) (eqb k 6) (λ t. not-true n t) (λ t. refl)))))
+    (by-test (KeptIn c) (eqb k 6) (λ t. refused-test n t) (λ t. refl)))))
 
 preset-kept : (c : Channel) (k : ℕ) → not (eqb k 1) ≡ true → KeptIn c (preset c k)
 unfolding preset
-preset-kept c k n = by-test (KeptIn c) (eqb k 1) (λ t. not-true n t) (λ t. if-elim (KeptIn c) (eqb k 2) refl (if-elim (KeptIn c) (eqb k 3) refl refl))
+preset-kept c k n = by-test (KeptIn c) (eqb k 1) (λ t. refused-test n t) (λ t. if-elim (KeptIn c) (eqb k 2) refl (if-elim (KeptIn c) (eqb k 3) refl refl))
 
 wr0-kept : (c : Channel) (v : ℕ) → quietWr0 v ≡ true → KeptIn c (writeWr0 c v)
 unfolding writeWr0 presetStep commandStep settled
@@ -78,7 +78,7 @@ wr0-kept c v q =
     let b = not (eqb (commandIn v) 6) in
     let d = not (eqb (presetIn v) 1) in
     let r = both-right a (b && d) q in
-    by-test (KeptIn c) (eqb (commandIn v) 3) (λ t. not-true (both-left a (b && d) q) t)
+    by-test (KeptIn c) (eqb (commandIn v) 3) (λ t. refused-test (both-left a (b && d) q) t)
     (λ t. preset-kept (commandStep c v) (presetIn v) (both-right b d r) ∙ commanded-kept c (commandIn v) (both-left b d r))
 
 wr1-kept : (c : Channel) (v : ℕ) → KeptIn c (setWr1 c v)
@@ -104,10 +104,10 @@ chosen-kept : (c : Channel) (p : ℕ) (r1 r2 r3 r4 r5 r6 r7 : Channel) → quiet
 chosen-kept c p r1 r2 r3 r4 r5 r6 r7 q k1 k2 k5 k7 =
     let r = both-right (not (eqb p 3)) (not (eqb p 4) && not (eqb p 6)) q in
     if-elim (KeptIn c) (eqb p 1) k1 (if-elim (KeptIn c) (eqb p 2) k2
-    (by-test (KeptIn c) (eqb p 3) (λ t. not-true (both-left (not (eqb p 3)) (not (eqb p 4) && not (eqb p 6)) q) t)
-    (λ t. by-test (KeptIn c) (eqb p 4) (λ t. not-true (both-left (not (eqb p 4)) (not (eqb p 6)) r) t)
+    (by-test (KeptIn c) (eqb p 3) (λ t. refused-test (both-left (not (eqb p 3)) (not (eqb p 4) && not (eqb p 6)) q) t)
+    (λ t. by-test (KeptIn c) (eqb p 4) (λ t. refused-test (both-left (not (eqb p 4)) (not (eqb p 6)) r) t)
     (λ t. if-elim (KeptIn c) (eqb p 5) k5
-    (by-test (KeptIn c) (eqb p 6) (λ t. not-true (both-right (not (eqb p 4)) (not (eqb p 6)) r) t) (λ t. k7))))))
+    (by-test (KeptIn c) (eqb p 6) (λ t. refused-test (both-right (not (eqb p 4)) (not (eqb p 6)) r) t) (λ t. k7))))))
 
 register-kept : (c : Channel) (w : channel.Side) (p v : ℕ) → quietRegister p ≡ true → KeptIn c (setRegister c w p v)
 unfolding setRegister
@@ -218,8 +218,8 @@ data-write-kept B c ch v = call-kept B c ch _ _ (λ t. refl) refl
 
 data-read-kept : (w : Which) (c : Chip) (ch : ℕ) → not (here w ch) ≡ true → KeptBy w c (dataReadCall c ch)
 unfolding dataReadCall
-data-read-kept A c ch q = call-kept A c ch _ _ (λ t. not-true q t) refl
-data-read-kept B c ch q = call-kept B c ch _ _ (λ t. not-true q t) refl
+data-read-kept A c ch q = call-kept A c ch _ _ (λ t. refused-test q t) refl
+data-read-kept B c ch q = call-kept B c ch _ _ (λ t. refused-test q t) refl
 
 transmit-kept : (w : Which) (c : Chip) (ch : ℕ) → KeptBy w c (transmitCall c ch)
 unfolding transmitCall transmitTick settled

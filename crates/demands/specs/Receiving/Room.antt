@@ -4,6 +4,7 @@ use mathlib.Core.Bool.{Bool, true, false, _&&_}
 use mathlib.Core.List.{List, [], _∷_}
 use Prim.Native.Nat.{ℕ, _≤_}
 use lib.ListN.{length}
+use Rattle.common.specs.Tools.{both-left, both-right}
 use Rattle.line.specs.Frame.{frame}
 use Rattle.line.specs.Laws.Bits.{Below}
 use Rattle.chip.specs.declared.Chip.{Chip}
@@ -11,7 +12,6 @@ use Rattle.chip.specs.Event.{Event}
 use Rattle.stories.specs.Story.{Which, happens}
 use Rattle.stories.specs.Received.{Role, Hears, Reads, Else, role, bitsOf}
 use Rattle.demands.specs.Receiving.Statement.{sideOf, Listening, roomy, Fed, over, hears, reads, still, withCheck, ended, Received}
-use Rattle.demands.specs.Receiving.Tools.{both-left, both-right}
 use Rattle.demands.specs.Receiving.Demand.{demand2}
 use Rattle.demands.specs.Receiving.Quiet.{quiet, quiet-keeps}
 

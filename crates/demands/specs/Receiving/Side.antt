@@ -5,7 +5,7 @@ use mathlib.Core.List.{List, [], _∷_, _++_}
 use Prim.Native.Nat.{ℕ}
 use lib.Dec.{eqb, leb}
 use Rattle.common.specs.Choice.{if_then_else_}
-use Rattle.common.specs.Tools.{eqb-elim, by-test, if-elim}
+use Rattle.common.specs.Tools.{eqb-elim, by-test, if-elim, void}
 use Rattle.common.specs.declared.Refusal.the-variants as refusal
 use Rattle.queue.specs.declared.Entry.{Entry}
 use Rattle.queue.specs.declared.Queue.{Queue}
@@ -27,7 +27,6 @@ use Rattle.chip.specs.Event.{Event, HardReset, ControlWrite, ControlRead, DataW
 use Rattle.stories.specs.Story.{Which, A, B, number, chan, happens}
 use Rattle.stories.specs.Received.{Role, Hears, Reads, Else, role, taking, valueIf, valuesOf, tookOf, bytesOf}
 use Rattle.demands.specs.Receiving.Statement.{Side, side, sideIn, sideOf}
-use Rattle.demands.specs.Receiving.Tools.{void}
 
 abbrev pub heardSide : Bool → Side → Side
 heardSide b x = let h = hear (x .settings) (x .receiver) b in side (h .receiver) (queued (x .queue) h) (x .settings)

@@ -4,7 +4,7 @@ use mathlib.Core.Bool.{Bool, true, false, not, _&&_, _||_, Bool·beq}
 use Prim.Native.Nat.{ℕ, _/_}
 use lib.Dec.{eqb, ltb, leb}
 use Rattle.common.specs.Choice.{if_then_else_}
-use Rattle.common.specs.Tools.{if-elim, by-test}
+use Rattle.common.specs.Tools.{if-elim, by-test, void, both-left, both-right}
 use Rattle.common.specs.Mode.{inSdlc}
 use Rattle.common.specs.declared.Mode.{Mode}
 use Rattle.common.specs.declared.Mode.the-variants.{NoMode, Asynchronous, Sdlc}
@@ -29,7 +29,6 @@ use Rattle.chip.specs.declared.Acknowledged.{Acknowledged}
 use Rattle.chip.specs.Interrupts.{serviceLevel, none, serving, atLevel, mayTake, acknowledge, reti, pendingLevel}
 use Rattle.chip.specs.Chip.{refused, byChannel, endsService, onLevel, controlWriteA, controlWrite, controlReadCall, dataWriteCall, dataReadCall, transmitCall, receiveCall, linesCall}
 use Rattle.chip.specs.Event.{Event, HardReset, ControlWrite, ControlRead, DataWrite, DataRead, Transmit, Receive, SetLines, Acknowledge, Reti}
-use Rattle.come.specs.Laws.{void}
 use Rattle.stories.specs.Story.{Which, A, B, number, chan, happens}
 use Rattle.demands.specs.Sending.Side.{Heeded, heeded, SenderSide, side, sendingIn, sideIn, sideOf}
 
@@ -69,14 +68,6 @@ quiet w c Acknowledge = true
 quiet w c Reti = true
 
 -- That it is enough
-
-pub and-l : (a b : Bool) → a && b ≡ true → a ≡ true
-and-l true b e = refl
-and-l false b e = void e
-
-pub and-r : (a b : Bool) → a && b ≡ true → b ≡ true
-and-r true b e = e
-and-r false b e = void e
 
 beq-same : (a b : Bool) → Bool·beq a b ≡ true → a ≡ b
 beq-same true true e = refl
@@ -121,12 +112,12 @@ unfolding writeWr0 commandStep presetStep settled
 wr0-keeps c v q =
     let k = commandIn v in
     let j = presetIn v in
-    let l = and-l (not (eqb k 1) && not (eqb k 3)) (not (eqb j 2) && not (eqb j 3)) q in
-    let r = and-r (not (eqb k 1) && not (eqb k 3)) (not (eqb j 2) && not (eqb j 3)) q in
+    let l = both-left (not (eqb k 1) && not (eqb k 3)) (not (eqb j 2) && not (eqb j 3)) q in
+    let r = both-right (not (eqb k 1) && not (eqb k 3)) (not (eqb j 2) && not (eqb j 3)) q in
     let d = settled c (commanded c k) in
-    if-not (Keeps c) (eqb k 3) (resetWith (c .lines)) (and-r (not (eqb k 1)) (not (eqb k 3)) l)
-    (preset-keeps d j (and-l (not (eqb j 2)) (not (eqb j 3)) r) (and-r (not (eqb j 2)) (not (eqb j 3)) r)
-    ∙ commanded-keeps c k (and-l (not (eqb k 1)) (not (eqb k 3)) l))
+    if-not (Keeps c) (eqb k 3) (resetWith (c .lines)) (both-right (not (eqb k 1)) (not (eqb k 3)) l)
+    (preset-keeps d j (both-left (not (eqb j 2)) (not (eqb j 3)) r) (both-right (not (eqb j 2)) (not (eqb j 3)) r)
+    ∙ commanded-keeps c k (both-left (not (eqb k 1)) (not (eqb k 3)) l))
 
 -- registers that say the same of sending
 wr3-keeps : (r : Registers) (l : Lines) (v : ℕ) → Bool·beq (odd (v / 32)) (autoEnables r) ≡ true → heeded (sendingOf (store3 r v) l) ≡ heeded (sendingOf r l)
@@ -184,10 +175,10 @@ register-keeps c s p v n q =
         let i = Bool·beq (odd v) (odd (r .wr5)) in
         let o = Bool·beq (odd (v / 8)) (odd (r .wr5 / 8)) in
         let b = Bool·beq (odd (v / 16)) (odd (r .wr5 / 16)) in
-        let t = and-r i (o && b) q in
+        let t = both-right i (o && b) q in
         ap (sameSender c)
-        (wr5-keeps r (c .lines) v (beq-same (odd v) (odd (r .wr5)) (and-l i (o && b) q)) (beq-same (odd (v / 8)) (odd (r .wr5 / 8)) (and-l o b t))
-        (beq-same (odd (v / 16)) (odd (r .wr5 / 16)) (and-r o b t)))
+        (wr5-keeps r (c .lines) v (beq-same (odd v) (odd (r .wr5)) (both-left i (o && b) q)) (beq-same (odd (v / 8)) (odd (r .wr5 / 8)) (both-left o b t))
+        (beq-same (odd (v / 16)) (odd (r .wr5 / 16)) (both-right o b t)))
 
 abbrev KeepsAnswered : Channel → Answered → Type 0
 KeepsAnswered c x = Keeps c (x .channel)

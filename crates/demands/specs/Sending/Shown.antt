@@ -8,7 +8,7 @@ use lib.Dec.{eqb, ltb, leb}
 use Rattle.common.specs.Bit.{placed}
 use Rattle.common.specs.Choice.{if_then_else_}
 use Rattle.common.specs.Mode.{inSdlc}
-use Rattle.common.specs.Tools.{if-elim, by-test}
+use Rattle.common.specs.Tools.{if-elim, by-test, void}
 use Rattle.line.specs.Bits.{odd}
 use Rattle.queue.specs.Queue.{waits}
 use Rattle.sender.specs.declared.Sender.{Sender}
@@ -30,7 +30,6 @@ use Rattle.chip.specs.declared.Acknowledged.{Acknowledged}
 use Rattle.chip.specs.Interrupts.{none, serving, atLevel, mayTake, acknowledge, reti, serviceLevel, pendingLevel, anyPending, rr2}
 use Rattle.chip.specs.Chip.{endsService, controlWriteA, controlWrite, controlReadCall, dataWriteCall, dataReadCall, transmitCall, receiveCall, linesCall}
 use Rattle.chip.specs.Event.{Event, HardReset, ControlWrite, ControlRead, DataWrite, DataRead, Transmit, Receive, SetLines, Acknowledge, Reti}
-use Rattle.come.specs.Laws.{void}
 use Rattle.stories.specs.Story.{Which, A, B, number, chan, happens}
 use Rattle.stories.specs.Sent.{d6, resetStatus}
 use Rattle.demands.specs.Sending.Side.{sendingIn, latchOf}

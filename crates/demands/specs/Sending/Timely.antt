@@ -6,16 +6,16 @@ use Prim.Native.Nat.{ℕ, _+_, _-_, _*_}
 use lib.Dec.{eqb}
 use lib.ListN.{length}
 use borrow.Author.Tests.{eqb-true}
+use Rattle.common.specs.Tools.{void, both-left, both-right, not-true}
 use Rattle.line.specs.Frame.{frame, zerosOf}
 use Rattle.chip.specs.declared.Chip.{Chip}
 use Rattle.chip.specs.Event.{Event}
 use Rattle.come.specs.Stage.{sinceAfter, inTime}
 use Rattle.come.specs.Start.{flagHead}
-use Rattle.come.specs.Laws.{void}
 use Rattle.stories.specs.Story.{Which, happens}
 use Rattle.stories.specs.Sent.{Role, Ticks, Writes, Else, role, ticksBy, lineOf, ticks}
 use Rattle.demands.specs.Sending.Side.{SenderSide, fullOf, latchOf, View, its-tick, its-write, other, view}
-use Rattle.demands.specs.Sending.Quiet.{quiet, quiet-keeps, and-l, and-r}
+use Rattle.demands.specs.Sending.Quiet.{quiet, quiet-keeps}
 use Rattle.demands.specs.Sending.Statement.{Start, InTime, over, still, writes, next-frame, ticking, statusLatched, Free, Watched, LeftToRun}
 use Rattle.demands.specs.Sending.Statement as stated
 use Rattle.demands.specs.Sending.Frame.{write-side, write-no-tick, demand3}
@@ -48,18 +48,14 @@ timely w c n rest (e ∷ st) =
     allowed w c n rest e (role w e)
     && timely w (happens c e .chip) (since (role w e) (fullOf w c) (fullOf w (happens c e .chip)) n) (unwritten (role w e) rest) st
 
-not-true : (t : Bool) → not t ≡ true → t ≡ false
-not-true true e = sym e
-not-true false e = refl
-
 -- one event, by its role; what follows is handed in
 one-more : (w : Which) (c : Chip) (n : ℕ) (rest : List ℕ) (e : Event) (st : List Event) (r : Role) → View w e r → role w e ≡ r → allowed w c n rest e r ≡ true
     → InTime w [] (happens c e .chip) (since r (fullOf w c) (fullOf w (happens c e .chip)) n) (unwritten r rest) st → InTime w [] c n rest (e ∷ st)
 one-more w c n rest _ st Ticks its-tick q a i = ticking a i
 one-more w c n [] _ st (Writes b) its-write q a i = next-frame a i
 one-more w c n (v ∷ rest) _ st (Writes b) its-write q a i =
-    let p : b ≡ v = eqb-true b v (and-l (eqb b v) (not (fullOf w c)) a) in
-    let f = not-true (fullOf w c) (and-r (eqb b v) (not (fullOf w c)) a) in
+    let p : b ≡ v = eqb-true b v (both-left (eqb b v) (not (fullOf w c)) a) in
+    let f = not-true (fullOf w c) (both-right (eqb b v) (not (fullOf w c)) a) in
     rw (← p) (writes f i)
 one-more w c n rest e st Else other q a i = still q (quiet-keeps w c e a) i
 
@@ -70,8 +66,8 @@ in-time w c n (v ∷ rest) [] t = void t
 in-time w c n rest (e ∷ st) t =
     let r = role w e in
     let m = since r (fullOf w c) (fullOf w (happens c e .chip)) n in
-    let a = and-l (allowed w c n rest e r) (timely w (happens c e .chip) m (unwritten r rest) st) t in
-    let b = and-r (allowed w c n rest e r) (timely w (happens c e .chip) m (unwritten r rest) st) t in
+    let a = both-left (allowed w c n rest e r) (timely w (happens c e .chip) m (unwritten r rest) st) t in
+    let b = both-right (allowed w c n rest e r) (timely w (happens c e .chip) m (unwritten r rest) st) t in
     one-more w c n rest e st r (view w e) refl a (in-time w (happens c e .chip) m (unwritten r rest) st b)
 
 -- demand 3 with the test
@@ -101,8 +97,8 @@ unfolding freely
 free-of w c [] t = stated.ended
 free-of w c (e ∷ st) t =
     let r = role w e in
-    one-free w c e st r (view w e) refl (and-l (free w c e r) (freely w (happens c e .chip) st) t)
-    (free-of w (happens c e .chip) st (and-r (free w c e r) (freely w (happens c e .chip) st) t))
+    one-free w c e st r (view w e) refl (both-left (free w c e r) (freely w (happens c e .chip) st) t)
+    (free-of w (happens c e .chip) st (both-right (free w c e r) (freely w (happens c e .chip) st) t))
 
 -- one whose status is not latched at a tick while the latch is clear
 abbrev pub seeing : Which → Chip → Event → Role → Bool
@@ -128,8 +124,8 @@ unfolding watching
 watched-of w c [] t = stated.ended
 watched-of w c (e ∷ st) t =
     let r = role w e in
-    one-seen w c e st r (view w e) refl (and-l (seeing w c e r) (watching w (happens c e .chip) st) t)
-    (watched-of w (happens c e .chip) st (and-r (seeing w c e r) (watching w (happens c e .chip) st) t))
+    one-seen w c e st r (view w e) refl (both-left (seeing w c e r) (watching w (happens c e .chip) st) t)
+    (watched-of w (happens c e .chip) st (both-right (seeing w c e r) (watching w (happens c e .chip) st) t))
 
 -- such a host leaves an abort to run
 pub free-runs : (w : Which) {c : Chip} {st : List Event} → Free w c st → LeftToRun w c st

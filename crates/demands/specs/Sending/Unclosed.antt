@@ -9,7 +9,7 @@ use lib.Dec.{eqb}
 use lib.ListN.{length, length-append}
 use borrow.Author.Tests.{ne-eqb, lt-ltb}
 use Rattle.common.specs.Choice.{if_then_else_}
-use Rattle.common.specs.Tools.{lt-or, bool-or}
+use Rattle.common.specs.Tools.{lt-or, bool-or, void, both-left, both-right, not-true}
 use Rattle.line.specs.Bits.{odd, lowBits}
 use Rattle.line.specs.Check.{sdlc, ones, checkOver}
 use Rattle.line.specs.Insertion.{owes, runAfter, stuff}
@@ -26,13 +26,12 @@ use Rattle.sender.specs.Laws.Tick.{tick-owed, tick-flag, tick-byte, tick-choose
 use Rattle.chip.specs.declared.Chip.{Chip}
 use Rattle.chip.specs.Event.{Event, DataWrite, Transmit}
 use Rattle.come.specs.Come.{Good, flagTail}
-use Rattle.come.specs.Laws.{void, in-sdlc, start-byte}
+use Rattle.come.specs.Laws.{in-sdlc, start-byte}
 use Rattle.come.specs.Start.{started, flagHead, head-tail}
 use Rattle.stories.specs.Story.{Which, number, chan, happens, after}
 use Rattle.stories.specs.Sent.{ticksBy, lineOf, d6}
 use Rattle.demands.specs.Receiving.Deaf.{flagEnds, onesAfter, onesOver, flagFree, lead, content-free}
 use Rattle.demands.specs.Sending.Side.{Heeded, good, good-of, good-heeded, SenderSide, side, sendingIn, sideOf, latchOf}
-use Rattle.demands.specs.Sending.Quiet.{and-l, and-r}
 use Rattle.demands.specs.Sending.Statement.{Start, Watched, opens, FrameSeen}
 use Rattle.demands.specs.Sending.Statement as stated
 use Rattle.demands.specs.Sending.Frame.{tick-side, tick-bit, write-side, write-no-tick, skip-line, start-side}
@@ -47,16 +46,12 @@ unclosed o g (b ∷ bs) = if flagEnds o b then eqb g 7 && unclosed 0 0 bs else u
 
 -- A frame is closed
 
-not-true : (t : Bool) → not t ≡ true → t ≡ false
-not-true true e = sym e
-not-true false e = refl
-
 ends-later : (o g : ℕ) (xs : List Bool) → flagFree o xs ≡ true → onesOver o xs ≡ 6 → (g + length xs ≡ 7 → ⊥) → unclosed o g (xs ++ (false ∷ [])) ≡ false
 unfolding unclosed flagFree onesOver
 ends-later o g [] f e n = let t : eqb g 7 ≡ false = ne-eqb g 7 (λ q. n (omega arith)) in rw (e, t)
 ends-later o g (x ∷ xs) f e n =
-    let t = not-true (flagEnds o x) (and-l (not (flagEnds o x)) (flagFree (onesAfter o x) xs) f) in
-    rw t (ends-later (onesAfter o x) (g + 1) xs (and-r (not (flagEnds o x)) (flagFree (onesAfter o x) xs) f) e (λ q. n (omega arith)))
+    let t = not-true (flagEnds o x) (both-left (not (flagEnds o x)) (flagFree (onesAfter o x) xs) f) in
+    rw t (ends-later (onesAfter o x) (g + 1) xs (both-right (not (flagEnds o x)) (flagFree (onesAfter o x) xs) f) e (λ q. n (omega arith)))
 
 ones-join : (o : ℕ) (xs ys : List Bool) → onesOver o (xs ++ ys) ≡ onesOver (onesOver o xs) ys
 unfolding onesOver

@@ -5,7 +5,7 @@ use mathlib.Core.Bool.{true, false, not, _&&_}
 use mathlib.Core.List.{List, [], _∷_, _++_}
 use Prim.Native.Nat.{ℕ, _-_}
 use lib.Dec.{eqb}
-use Rattle.common.specs.Tools.{if-elim}
+use Rattle.common.specs.Tools.{if-elim, void}
 use Rattle.sender.specs.declared.LineUnit.{LineUnit}
 use Rattle.sender.specs.declared.LineUnit.the-variants.{Mark, Flag, Byte, Check, Abort, Character}
 use Rattle.sender.specs.declared.Core.{Core}
@@ -22,7 +22,7 @@ use Rattle.chip.specs.declared.Chip.{Chip}
 use Rattle.chip.specs.Chip.{transmitCall}
 use Rattle.chip.specs.Event.{Event, ControlWrite, DataWrite, Transmit}
 use Rattle.come.specs.Come.{Good}
-use Rattle.come.specs.Laws.{void, in-sdlc}
+use Rattle.come.specs.Laws.{in-sdlc}
 use Rattle.stories.specs.Story.{Which, A, B, number, chan, happens, after, after-join}
 use Rattle.stories.specs.Sent.{d6, resetStatus}
 use Rattle.demands.specs.Sending.Side.{Heeded, good, good-of, good-heeded, SenderSide, sendingIn, sideOf, latchOf}

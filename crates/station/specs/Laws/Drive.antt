@@ -6,7 +6,7 @@ use Prim.Native.Nat.{ℕ, zero, suc, _+_, _-_, _/_}
 use lib.Dec.{eqb}
 use borrow.Author.Tests.{eqb-true}
 use Rattle.common.specs.Mode.{inSdlc}
-use Rattle.common.specs.Tools.{by-test}
+use Rattle.common.specs.Tools.{by-test, void, both-left, both-right, not-true}
 use Rattle.common.specs.declared.Mode.{Mode}
 use Rattle.common.specs.declared.Mode.the-variants.{NoMode, Asynchronous, Sdlc}
 use Rattle.line.specs.Bits.{odd, oneIf}
@@ -33,7 +33,6 @@ use Rattle.chip.specs.Chip.{endsService, inA}
 use Rattle.common.specs.Choice.{if_then_else_}
 use Rattle.settings.specs.declared.Lines.{Lines}
 use Rattle.come.specs.Come.{Good}
-use Rattle.come.specs.Laws.{void}
 use Rattle.station.specs.Drive.{control, looked, wrote, ticked, canSend, betweenFrames, standsStill, setUp, settledFor, prepared}
 
 abbrev pub sendingA : Chip → Sending
@@ -120,18 +119,6 @@ pub record Waits (s : Sender) : Type 0 where
   pub run : s .core .run ≡ 0
   pub owed : s .core .owed ≡ false
 
-and-l : (a b : Bool) → (a && b) ≡ true → a ≡ true
-and-l true b e = refl
-and-l false b e = e
-
-and-r : (a b : Bool) → (a && b) ≡ true → b ≡ true
-and-r true b e = e
-and-r false b e = void e
-
-not-true : (a : Bool) → not a ≡ true → a ≡ false
-not-true true e = void e
-not-true false e = refl
-
 sdlc-alone : (m : Mode) → inSdlc m ≡ true → m ≡ Sdlc
 sdlc-alone NoMode e = void e
 sdlc-alone Asynchronous e = void e
@@ -140,23 +127,23 @@ sdlc-alone Sdlc e = refl
 can-send : (g : Sending) → canSend g ≡ true → Good g
 unfolding canSend
 can-send g e =
-    let l = and-l (inSdlc (g .mode) && g .on) (g .included && not (g .broken)) e in
-    let r = and-r (inSdlc (g .mode) && g .on) (g .included && not (g .broken)) e in
+    let l = both-left (inSdlc (g .mode) && g .on) (g .included && not (g .broken)) e in
+    let r = both-right (inSdlc (g .mode) && g .on) (g .included && not (g .broken)) e in
     record {
-      sdlc-mode = sdlc-alone (g .mode) (and-l (inSdlc (g .mode)) (g .on) l);
-      on = and-r (inSdlc (g .mode)) (g .on) l;
-      included = and-l (g .included) (not (g .broken)) r;
-      no-break = not-true (g .broken) (and-r (g .included) (not (g .broken)) r);
+      sdlc-mode = sdlc-alone (g .mode) (both-left (inSdlc (g .mode)) (g .on) l);
+      on = both-right (inSdlc (g .mode)) (g .on) l;
+      included = both-left (g .included) (not (g .broken)) r;
+      no-break = not-true (g .broken) (both-right (g .included) (not (g .broken)) r);
     }
 
 stands-still : (s : Sender) → standsStill s ≡ true → Waits s
 unfolding standsStill
 stands-still s e =
-    let r = and-r (betweenFrames (s .unit)) (eqb (s .core .run) 0 && not (s .core .owed)) e in
+    let r = both-right (betweenFrames (s .unit)) (eqb (s .core .run) 0 && not (s .core .owed)) e in
     record {
-      between = and-l (betweenFrames (s .unit)) (eqb (s .core .run) 0 && not (s .core .owed)) e;
-      run = eqb-true (s .core .run) 0 (and-l (eqb (s .core .run) 0) (not (s .core .owed)) r);
-      owed = not-true (s .core .owed) (and-r (eqb (s .core .run) 0) (not (s .core .owed)) r);
+      between = both-left (betweenFrames (s .unit)) (eqb (s .core .run) 0 && not (s .core .owed)) e;
+      run = eqb-true (s .core .run) 0 (both-left (eqb (s .core .run) 0) (not (s .core .owed)) r);
+      owed = not-true (s .core .owed) (both-right (eqb (s .core .run) 0) (not (s .core .owed)) r);
     }
 
 -- a prepared chip can send and has nothing under way
@@ -177,12 +164,12 @@ settled-for c p =
     let s = c .a .sender in
     let u = s .unit in
     by-test Prepared (canSend g && standsStill s)
-    (λ e. prepared-with (record { pointer = p; good = can-send g (and-l (canSend g) (standsStill s) e); sends = refl }) (stands-still s (and-r (canSend g) (standsStill s) e)))
+    (λ e. prepared-with (record { pointer = p; good = can-send g (both-left (canSend g) (standsStill s) e); sends = refl }) (stands-still s (both-right (canSend g) (standsStill s) e)))
     (λ e. by-test Prepared (canSend g && not (aborting u))
     (λ f.
-    let h = can-send g (and-l (canSend g) (not (aborting u)) f) in
+    let h = can-send g (both-left (canSend g) (not (aborting u)) f) in
     let w : Waits (cutShort s) = record { between = refl; run = refl; owed = refl } in
-    prepared-with (stands-as (aborted-stands (record { pointer = p; good = h; sends = refl })) (cut-short g s h (not-true (aborting u) (and-r (canSend g) (not (aborting u)) f)))) w)
+    prepared-with (stands-as (aborted-stands (record { pointer = p; good = h; sends = refl })) (cut-short g s h (not-true (aborting u) (both-right (canSend g) (not (aborting u)) f)))) w)
     (λ f. prepared-with (set-up-stands c p) (record { between = refl; run = refl; owed = refl })))
 
 pub prepared-well : (c : Chip) → Prepared (prepared c)

@@ -9,7 +9,7 @@ use lib.ListN.{length, drop, getD, replicate, length-append}
 use borrow.Author.Tests.{eq-eqb, ne-eqb}
 use Rattle.common.specs.Bit.{placed}
 use Rattle.common.specs.Choice.{if_then_else_}
-use Rattle.common.specs.Tools.{bool-or}
+use Rattle.common.specs.Tools.{bool-or, void}
 use Rattle.common.specs.declared.Mode.the-variants.{Sdlc}
 use Rattle.line.specs.Bits.{odd, oneIf}
 use Rattle.line.specs.Check.{ones}
@@ -35,7 +35,7 @@ use Rattle.chip.specs.Interrupts.{anyPending}
 use Rattle.chip.specs.Chip.{controlReadCall, transmitCall}
 use Rattle.come.specs.Come.{Good, flagTail, toCome}
 use Rattle.come.specs.Stage.{Stage, opening, inByte, inCheck, closing, inTime, sinceAfter}
-use Rattle.come.specs.Laws.{void, Takes, takes, moves, in-sdlc}
+use Rattle.come.specs.Laws.{Takes, takes, moves, in-sdlc}
 use Rattle.come.specs.Start.{started, at-start, start-stage, finished, finished-none, unfinished-some}
 use Rattle.station.specs.Drive.{bufferEmpty, betweenFrames, looked, wrote, ticked, lineBit, control, Fed, fedTo, fed, driven, lineOf, prepared, ticksToFlag, opened, begun, ticksLeft, sentBy}
 use Rattle.station.specs.Laws.Drive.{if-true, if-false, sendingA, Stands, stands-as, ticked-stands, wrote-stands, looked-stands, preset-stands, cleared-stands, Waits, Prepared, prepared-well}

@@ -10,7 +10,7 @@ use lib.ListN.{length, drop, getD, length-drop}
 use lib.Seq.{drop-cons}
 use borrow.Author.Tests.{lt-ltb, le-ltb, leb-true}
 use Rattle.common.specs.Choice.{if_then_else_}
-use Rattle.common.specs.Tools.{eqb-elim, lt-or, bool-or}
+use Rattle.common.specs.Tools.{eqb-elim, lt-or, bool-or, void}
 use Rattle.line.specs.Frame.{flagBits, frame, zerosOf, ticksOf}
 use Rattle.line.specs.Line.{noteFits}
 use Rattle.line.specs.Laws.Frame.{ticks-are, zeros-few}
@@ -25,7 +25,7 @@ use Rattle.chip.specs.Interrupts.{chip}
 use Rattle.chip.specs.Chip.{controlReadCall, dataWriteCall, transmitCall}
 use Rattle.come.specs.Come.{Good, toCome}
 use Rattle.come.specs.Stage.{Stage, sinceAfter}
-use Rattle.come.specs.Laws.{void, Takes, takes}
+use Rattle.come.specs.Laws.{Takes, takes}
 use Rattle.come.specs.Start.{finished, finished-none, unfinished-some}
 use Rattle.station.specs.declared.Parts.{Parts}
 use Rattle.station.specs.declared.Feeding.{Feeding}
