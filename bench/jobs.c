@@ -1,0 +1,142 @@
+/* Rounds of one job, done by plain C (1), by the product (2), by both in turn (3), or left undone (0). Standard input: the job (t transmit ticks,
+   r receive ticks, T and R the same of both channels in turn, s a note sent, l a line written), who, the note's kind (0 mixed, 1 FF, 2 00) and
+   length, and the rounds. Prints for C and for the product a sum over all that came out and the best round's nanoseconds, and then how many
+   ticks or line bits a round has. */
+#include "station.h"
+#include "line.h"
+int printf(const char *, ...);
+int scanf(const char *, ...);
+struct timespec { long seconds, nanoseconds; };
+int clock_gettime(int, struct timespec *);
+
+extern size sio_transmit(const u8 *note, size n, u8 *out, size len, size ticks, _Bool both);
+extern size sio_receive(const u8 *line, size n, u8 *out, size len, size ticks, _Bool both);
+extern size sio_send(const u8 *note, size n, size *told, size told_len, size rounds);
+extern size sio_write_line(const u8 *note, size note_len, u8 *out, size out_len, size at);
+
+enum { LINE = 20000, TICKS = 65536, NOTES = 4 };
+
+/* RR0 and RR1 of both channels. */
+static size state(const struct chip *c) {
+    return rr0(c, 0) | rr1(c, 0) << 8 | rr0(c, 1) << 16 | (size)rr1(c, 1) << 24;
+}
+
+static void set_up(struct chip *c, int ch) {
+    control_write(c, ch, 4);
+    control_write(c, ch, 0x20);
+    control_write(c, ch, 3);
+    control_write(c, ch, 0xC1);
+    control_write(c, ch, 5);
+    control_write(c, ch, 0x69);
+    control_write(c, ch, 0x80);
+    control_write(c, ch, 0xC0);
+}
+
+/* The note's next byte if the buffer is empty; behind the last, when the underrun bit says that the frame is closing, the next frame begins. */
+static size feed(struct chip *c, int ch, const u8 *note, size n, size at) {
+    const struct channel *x = &c->ch[ch];
+    if (at < n) {
+        if (x->full) return at;
+        data_write(c, ch, note[at]);
+        return at + 1;
+    }
+    if (!(x->live & UNDERRUN)) return at;
+    control_write(c, ch, 0x80);
+    control_write(c, ch, 0xD0);
+    return 0;
+}
+
+__attribute__((noinline)) static size c_transmit(const u8 *note, size n, u8 *out, size len, size ticks, _Bool both) {
+    struct chip c;
+    size at = 0, other = 0, sent = 0;
+    u8 ch = 0;
+    reset(&c);
+    set_up(&c, 0);
+    set_up(&c, 1);
+    for (size left = ticks; left > 0; left--) {
+        size next = feed(&c, ch, note, n, at);
+        u8 bit = transmit(&c, ch);
+        if (sent < len) out[sent++] = bit;
+        at = next;
+        if (both) {
+            at = other;
+            other = next;
+            ch = 1 - ch;
+        }
+    }
+    return state(&c);
+}
+
+/* The line again and again; each character is read as it comes. */
+__attribute__((noinline)) static size c_receive(const u8 *line, size n, u8 *out, size len, size ticks, _Bool both) {
+    struct chip c;
+    size at = 0, other = 0, got = 0;
+    u8 ch = 0;
+    reset(&c);
+    set_up(&c, 0);
+    set_up(&c, 1);
+    for (size left = ticks; left > 0; left--) {
+        size next = at + 1 < n ? at + 1 : 0;
+        receive(&c, ch, line[at]);
+        if (c.ch[ch].waiting && got < len) out[got++] = data_read(&c, ch);
+        at = next;
+        if (both) {
+            at = other;
+            other = next;
+            ch = 1 - ch;
+        }
+    }
+    return state(&c);
+}
+
+__attribute__((noinline)) static size c_send(const u8 *note, size n, size *told, size rounds) {
+    struct chip c;
+    reset(&c);
+    for (size left = rounds; left > 0; left--) told[1] = send(&c, note, n, &told[0]);
+    return state(&c);
+}
+
+static u8 note[LONGEST], line[LINE], out[TICKS];
+
+static size job(char what, int who, size n, size bits, size *told) {
+    _Bool both = what == 'T' || what == 'R';
+    switch (what) {
+    case 't': case 'T': return who == 1 ? c_transmit(note, n, out, TICKS, TICKS, both) : sio_transmit(note, n, out, TICKS, TICKS, both);
+    case 'r': case 'R': return who == 1 ? c_receive(line, bits, out, TICKS, TICKS, both) : sio_receive(line, bits, out, TICKS, TICKS, both);
+    case 's': return who == 1 ? c_send(note, n, told, NOTES) : sio_send(note, n, told, 2, NOTES);
+    default: return who == 1 ? write_line(note, n, out, LINE, 3) : sio_write_line(note, n, out, LINE, 3);
+    }
+}
+
+static long now(void) {
+    struct timespec t;
+    clock_gettime(2, &t);
+    return t.seconds * 1000000000 + t.nanoseconds;
+}
+
+int main(void) {
+    char what;
+    int who, kind;
+    size n, rounds, sum[3] = {0, 0, 0};
+    long best[3] = {0, 0, 0};
+    if (scanf("%c %d %d %lu %lu", &what, &who, &kind, &n, &rounds) != 5 || n == 0 || n > LONGEST) return 1;
+    for (size i = 0; i < n; i++) note[i] = kind == 0 ? (u8)(i * 167 + 13) : kind == 1 ? 0xFF : 0;
+    size zeros = write_line(note, n, line, LINE, 0), bits = zeros + 8 * (n + 2) + 8;      /* no closing flag: the next opening one closes the frame */
+    size units = what == 's' ? NOTES * (bits + 8) : what == 'l' ? bits + 8 : TICKS;
+    for (size r = 0; r < rounds; r++) {
+        for (int k = 1; k <= 2; k++) {
+            if (!(who & k)) continue;
+            size told[2] = {0, 0};
+            for (size i = 0; who == 3 && r == 0 && i < TICKS; i++) out[i] = 0;
+            long start = now();
+            size state = job(what, k, n, bits, told);
+            long took = now() - start;
+            if (r == 0 || took < best[k]) best[k] = took;
+            sum[k] = ((sum[k] * 31 + state) * 31 + told[0]) * 31 + told[1];
+            for (size i = 0; who == 3 && r == 0 && i < TICKS; i++) sum[k] = sum[k] * 31 + out[i];
+        }
+        note[r % n] ^= 1;
+    }
+    printf("%lu %lu %ld %ld %lu\n", sum[1], sum[2], best[1], best[2], units);
+    return 0;
+}
