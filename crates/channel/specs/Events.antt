@@ -6,8 +6,11 @@ use Rattle.common.specs.Choice.{if_then_else_}
 use Rattle.line.specs.Bits.{oneIf}
 use Rattle.queue.specs.declared.Queue.{Queue}
 use Rattle.queue.specs.Queue.{pushed, taken, oldest, waits, special}
+use Rattle.common.specs.Mode.{inSdlc}
+use Rattle.sender.specs.declared.Sender.{Sender}
+use Rattle.sender.specs.declared.Sending.{Sending}
 use Rattle.sender.specs.declared.Ticked.{Ticked}
-use Rattle.sender.specs.Sender.{tick, written}
+use Rattle.sender.specs.Sender.{tick, within, tickWithin, written}
 use Rattle.receiver.specs.declared.Heard.{Heard}
 use Rattle.receiver.specs.Receiver.{hear}
 use Rattle.settings.specs.declared.Lines.{Lines}
@@ -40,6 +43,19 @@ transmitted c t = answered (Gave (oneIf (t .bit))) (settled c (afterTick c t))
 
 unfoldable pub transmitTick : Channel → Answered
 transmitTick c = transmitted c (tick (sendingOf (c .registers) (c .lines)) (c .sender))
+
+-- most transmit ticks, in a form of their own: in SDLC, with no break and inside a byte, nothing but the sender changes
+abbrev pub sendsWithin : Sending → Sender → Bool
+sendsWithin g s = inSdlc (g .mode) && (not (g .broken) && within s)
+
+unfoldable pub withinByte : Channel → Bool
+withinByte c = sendsWithin (sendingOf (c .registers) (c .lines)) (c .sender)
+
+abbrev pub sentOn : Channel → Ticked → Answered
+sentOn c t = answered (Gave (oneIf (t .bit))) (withSender c (t .sender))
+
+unfoldable pub tickedWithin : Channel → Answered
+tickedWithin c = sentOn c (tickWithin (c .sender))
 
 -- a receive tick "takes one"; what the receiver hands over is queued
 abbrev pub queued : Queue → Heard → Queue

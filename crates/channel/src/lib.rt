@@ -19,7 +19,7 @@ ghost use Rattle.channel.specs.Status.{quietLive, changed, noticed, show
 ghost use Rattle.channel.specs.Channel.{noSources, liveOf, settled, resetWith};
 ghost use Rattle.channel.specs.Control.{commanded, preset, commandStep, presetStep, writeWr0, setWr1, setWr2, setWr3, sameMode, inMode, setWr4, setRegister, controlWritten};
 ghost use Rattle.channel.specs.Control.{rr0, rr1Now, readRegister, controlRead};
-ghost use Rattle.channel.specs.Events.{dataWritten, dataRead, afterTick, transmitted, transmitTick, queued, heardBy, receiveTick, linesSet, specialWaits, receivePending, pendingIn};
+ghost use Rattle.channel.specs.Events.{dataWritten, dataRead, afterTick, transmitted, transmitTick, withinByte, tickedWithin, queued, heardBy, receiveTick, linesSet, specialWaits, receivePending, pendingIn};
 
 // Which of the two channels.
 pub enum Side {
@@ -589,6 +589,32 @@ impl Channel {
         c.sender = s;
         c.transmit = self.transmit | (t.loaded & (r.wr1 / 2 % 2 == 1));
         c
+    }
+
+    // A transmit tick changes nothing but the sender: in SDLC, with no break and inside a byte.
+    pub fn within(self) -> bool
+        ensures { λ r. ⌜ r ≡ withinByte self ⌝ }
+    {
+        let r = self.registers;
+        let s = self.sender;
+        let g = r.sending(self.lines);
+        let m = g.mode;
+        in_sdlc(m) & (!g.broken & s.within())
+    }
+
+    // That tick. Most are of this kind, and a chip does them with no further call (bench/README.md).
+    pub fn tick_within(self) -> Answered
+        ensures { λ r. ⌜ r ≡ tickedWithin self ⌝ }
+    {
+        let s = self.sender;
+        let t = s.tick_within();
+        let n = t.sender;
+        let mut c = self;
+        c.sender = n;
+        Answered {
+            answer: Answer::Gave(cell(t.bit)),
+            channel: c,
+        }
     }
 
     // A transmit tick.

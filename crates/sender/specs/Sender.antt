@@ -102,6 +102,37 @@ going g k (Character n v) = next g k (Character n v)
 unfoldable pub tickSdlc : Sending → Sender → Ticked
 tickSdlc g s = if s .core .owed then ticked false false (sender (s .unit) (paid (s .core))) else going g (s .core) (s .unit)
 
+-- Most ticks, in a form of their own: while a byte has bits left, neither settings nor buffer have a part in an SDLC tick
+
+-- the bits of a byte that are still to be sent, and what is left of it to shift out; 0 in another unit
+abbrev pub byteLeft : LineUnit → ℕ
+byteLeft Mark = 0
+byteLeft (Flag n) = 0
+byteLeft (Byte n v) = n
+byteLeft (Check n v) = 0
+byteLeft (Abort n) = 0
+byteLeft (Character n v) = 0
+
+abbrev pub byteRest : LineUnit → ℕ
+byteRest Mark = 0
+byteRest (Flag n) = 0
+byteRest (Byte n v) = v
+byteRest (Check n v) = 0
+byteRest (Abort n) = 0
+byteRest (Character n v) = 0
+
+abbrev pub within : Sender → Bool
+within s = not (eqb (byteLeft (s .unit)) 0)
+
+abbrev pub byteOn : Core → ℕ → ℕ → Ticked
+byteOn k n v = ticked (odd v) false (sender (Byte (n - 1) (v / 2)) (counted k (odd v)))
+
+unfoldable pub tickWithin : Sender → Ticked
+tickWithin s =
+    if s .core .owed
+    then ticked false false (sender (s .unit) (paid (s .core)))
+    else byteOn (s .core) (byteLeft (s .unit)) (byteRest (s .unit))
+
 -- "A character is loaded on the tick of its start bit, if on, the buffer is full and none is under way, and is then finished as set on that
 -- tick; otherwise the tick sends 1."
 abbrev pub underWay : LineUnit → Bool

@@ -5,12 +5,13 @@ use line::ONES;
 use line::SDLC;
 use line::check_byte;
 ghost use mathlib.Core.Path.{_≡_};
-ghost use Prim.Native.Nat.{_+_, _*_, _%_, _^_, _≤_};
+ghost use Prim.Native.Nat.{_+_, _-_, _*_, _%_, _^_, _≤_};
 ghost use lib.ListN.{length};
 ghost use Rattle.line.specs.Bits.{lowBits};
 ghost use Rattle.line.specs.Laws.Bits.{fromLow};
 ghost use Rattle.sender.specs.Character.{bitsSent, parityBit, stopBits, characterOf};
 ghost use Rattle.sender.specs.Sender.{counted, uncounted, emptied, latched, entered, startMark, startFlag, startByte, startCheck, following, next, flagBit, going, tickSdlc};
+ghost use Rattle.sender.specs.Sender.{byteLeft, byteRest, within, byteOn, tickWithin};
 ghost use Rattle.sender.specs.Sender.{underWay, startCharacter, idling, tickAsynchronous, withBreak, tick};
 ghost use Rattle.sender.specs.Sender.{written, aborting, cutShort, aborted, checkPreset, latchCleared, idled, atReset, allSent, checking, bufferReady};
 
@@ -146,7 +147,45 @@ impl Sending {
     }
 }
 
+// One less; none is left of none.
+fn less_one(n: u8) -> u8
+    ensures { λ r. ⌜ r ≡ n - 1 ⌝ }
+{
+    if n == 0 {
+        return 0;
+    }
+    n - 1
+}
+
 impl LineUnit {
+    // The bits of a byte that are still to be sent; 0 in another unit.
+    pub fn byte_left(self) -> u8
+        ensures { λ r. ⌜ r ≡ byteLeft self ⌝ }
+    {
+        match self {
+            LineUnit::Mark => 0,
+            LineUnit::Flag(n) => 0,
+            LineUnit::Byte(n, v) => n,
+            LineUnit::Check(n, v) => 0,
+            LineUnit::Abort(n) => 0,
+            LineUnit::Character(n, v) => 0,
+        }
+    }
+
+    // What is left of a byte to shift out; 0 in another unit.
+    pub fn byte_rest(self) -> u8
+        ensures { λ r. ⌜ r ≡ byteRest self ⌝ }
+    {
+        match self {
+            LineUnit::Mark => 0,
+            LineUnit::Flag(n) => 0,
+            LineUnit::Byte(n, v) => v,
+            LineUnit::Check(n, v) => 0,
+            LineUnit::Abort(n) => 0,
+            LineUnit::Character(n, v) => 0,
+        }
+    }
+
     // A character is under way.
     pub fn under_way(self) -> bool
         ensures { λ r. ⌜ r ≡ underWay self ⌝ }
@@ -417,6 +456,21 @@ impl Core {
         }
     }
 
+    // The next bit of a byte, all but its first.
+    pub fn byte_on(self, n: u8, v: u8) -> Ticked
+        ensures { λ r. ⌜ r ≡ byteOn self n v ⌝ }
+    {
+        let b = v % 2 == 1;
+        Ticked {
+            bit: b,
+            loaded: false,
+            sender: Sender {
+                unit: LineUnit::Byte(less_one(n), v / 2),
+                core: self.counted(b),
+            },
+        }
+    }
+
     // The start bit of the character in the buffer.
     pub fn start_character(self, g: Sending) -> Ticked
         ensures { λ r. ⌜ r ≡ startCharacter g self ⌝ }
@@ -484,6 +538,35 @@ impl Sender {
             };
         }
         k.going(g, u)
+    }
+
+    // A byte has bits left: then neither settings nor buffer have a part in an SDLC tick.
+    pub fn within(self) -> bool
+        ensures { λ r. ⌜ r ≡ within self ⌝ }
+    {
+        let u = self.unit;
+        u.byte_left() != 0
+    }
+
+    // That tick. It is small, so that the calls of a chip and a station's loop hold it in themselves (bench/README.md).
+    pub fn tick_within(self) -> Ticked
+        ensures { λ r. ⌜ r ≡ tickWithin self ⌝ }
+    {
+        let u = self.unit;
+        let k = self.core;
+        if k.owed {
+            let mut paid = k;
+            paid.owed = false;
+            return Ticked {
+                bit: false,
+                loaded: false,
+                sender: Sender {
+                    unit: u,
+                    core: paid,
+                },
+            };
+        }
+        k.byte_on(u.byte_left(), u.byte_rest())
     }
 
     // No character is under way: one is loaded if it may be.

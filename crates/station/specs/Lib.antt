@@ -1,5 +1,6 @@
 pub mod Drive
 pub mod Parts
+pub mod Through
 pub mod Report
 pub mod Laws
 pub mod Example

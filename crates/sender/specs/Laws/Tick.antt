@@ -1,14 +1,16 @@
 -- One equation for each clause of a tick and of an abort: later theorems go by these and never open `tick`. Then what an asynchronous
 -- character puts on the line. Assumes nothing.
 use mathlib.Core.Path.{_≡_, refl, sym, ap, _∙_}
-use mathlib.Core.Bool.{Bool, true, false, not, _&&_}
+use mathlib.Core.Bool.{Bool, true, false, not, _&&_, true≢false}
 use mathlib.Core.List.{List, [], _∷_}
 use Prim.Native.Nat.{ℕ, zero, suc, _+_, _*_, _-_, _/_, _%_}
 use native.Mathlib.Omega.{arith}
 use lib.Dec.{eqb, eqb·suc-zero}
 use lib.ListN.{length}
+use borrow.Author.Tests.{not-true}
+use Rattle.common.specs.Choice.{if_then_else_}
 use Rattle.common.specs.Mode.{inSdlc}
-use Rattle.common.specs.Tools.{bool-or}
+use Rattle.common.specs.Tools.{bool-or, if-elim}
 use Rattle.common.specs.declared.Mode.the-variants.{NoMode, Asynchronous, Sdlc}
 use Rattle.line.specs.Bits.{odd, oneIf}
 use Rattle.line.specs.Check.{top, shifted}
@@ -21,13 +23,35 @@ use Rattle.sender.specs.declared.Sender.{Sender}
 use Rattle.sender.specs.declared.Sending.{Sending}
 use Rattle.sender.specs.declared.Ticked.{Ticked}
 use Rattle.sender.specs.Character.{characterBits, holding}
-use Rattle.sender.specs.Sender.{core, sender, ticked, counted, uncounted, paid, emptied, latched, startMark, startFlag, startByte, startCheck, following, next, flagBit, going, tickSdlc, underWay, startCharacter, idling, tickAsynchronous, withBreak, tick, aborting, cutShort, aborted}
+use Rattle.sender.specs.Sender.{core, sender, ticked, counted, uncounted, paid, emptied, latched, startMark, startFlag, startByte, startCheck, following, next, flagBit, going, tickSdlc, byteLeft, byteRest, within, byteOn, tickWithin, underWay, startCharacter, idling, tickAsynchronous, withBreak, tick, aborting, cutShort, aborted}
 
 -- SDLC: a tick while a unit is under way
 
 pub tick-sdlc : (g : Sending) (s : Sender) → g .mode ≡ Sdlc → tick g s ≡ withBreak (g .broken) (tickSdlc g s)
 unfolding tick
 tick-sdlc g s m = rw m
+
+-- while a byte has bits left, the tick in its own form
+pub sdlc-within : (g : Sending) (s : Sender) → within s ≡ true → tickSdlc g s ≡ tickWithin s
+unfolding tickSdlc tickWithin going
+sdlc-within g s w = ap (λ (t : Ticked). if s .core .owed then ticked false false (sender (s .unit) (paid (s .core))) else t) (byte (s .unit) w)
+  where
+    byte : (u : LineUnit) → within (sender u (s .core)) ≡ true → going g (s .core) u ≡ byteOn (s .core) (byteLeft u) (byteRest u)
+    byte Mark e = absurd (true≢false (sym e))
+    byte (Flag n) e = absurd (true≢false (sym e))
+    byte (Byte n v) e = rw (not-true (eqb n 0) e)
+    byte (Check n v) e = absurd (true≢false (sym e))
+    byte (Abort n) e = absurd (true≢false (sym e))
+    byte (Character n v) e = absurd (true≢false (sym e))
+
+-- it loads nothing and leaves the latch
+pub within-loaded : (s : Sender) → tickWithin s .loaded ≡ false
+unfolding tickWithin
+within-loaded s = if-elim (λ (t : Ticked). t .loaded ≡ false) (s .core .owed) refl refl
+
+pub within-latch : (s : Sender) → tickWithin s .sender .core .latch ≡ s .core .latch
+unfolding tickWithin
+within-latch s = if-elim (λ (t : Ticked). t .sender .core .latch ≡ s .core .latch) (s .core .owed) refl refl
 
 module _ (g : Sending) (k : Core) where
   pub tick-owed : (u : LineUnit) → k .owed ≡ true → tickSdlc g (sender u k) ≡ ticked false false (sender u (paid k))
