@@ -1,2 +1,3 @@
 -- The channel's laws, a file for each idea.
 pub mod Sound
+pub mod Within

@@ -148,7 +148,7 @@ impl Channel {
 }
 
 // A line bit as a number.
-fn cell(b: bool) -> u8
+pub(crate) fn cell(b: bool) -> u8
     ensures { λ r. ⌜ r ≡ oneIf b ⌝ }
 {
     if b { 1 } else { 0 }

@@ -2,6 +2,7 @@
 mod control;
 mod events;
 mod external;
+mod within;
 
 use common::Refusal;
 use queue::Queue;

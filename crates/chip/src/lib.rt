@@ -203,10 +203,16 @@ impl Chip {
     {
         if ch == 0 {
             let a = self.a;
+            if a.within() {
+                return self.in_a(a.tick_within());
+            }
             return self.in_a(a.transmit_tick());
         }
         if ch == 1 {
             let b = self.b;
+            if b.within() {
+                return self.in_b(b.tick_within());
+            }
             return self.in_b(b.transmit_tick());
         }
         self.refused(Refusal::Channel)

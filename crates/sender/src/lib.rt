@@ -1,6 +1,7 @@
 // 01, Sending: one channel's sender. Settings come decoded; a tick gives a line bit. Assumes nothing.
 mod character;
 mod unit;
+mod within;
 
 use common::Mode;
 use common::in_sdlc;

@@ -65,7 +65,7 @@ fn flag_bit(n: u8) -> bool
 
 impl Core {
     // A bit of a byte or a check: five ones in a row owe a zero.
-    fn counted(self, b: bool) -> Core
+    pub(crate) fn counted(self, b: bool) -> Core
         ensures { λ r. ⌜ r ≡ counted self b ⌝ }
     {
         let mut k = self;

@@ -3,4 +3,5 @@
 pub mod Drive
 pub mod Frame
 pub mod Parts
+pub mod Through
 pub mod Report

@@ -25,9 +25,14 @@ ghost use Rattle.line.specs.Frame.{zerosOf, ticksOf};
 ghost use Rattle.line.specs.Line.{noteFits};
 ghost use Rattle.notes.specs.NoteList.{readList, scanned};
 ghost use Rattle.notes.specs.declared.Scanned.the-variants.{Notes};
+ghost use Rattle.line.specs.Bits.{oneIf};
+ghost use Rattle.line.specs.Insertion.{runAfter, owes};
+ghost use Rattle.sender.specs.Within.{within};
+ghost use Rattle.come.specs.Come.{Good};
 ghost use Rattle.come.specs.Start.{finished};
 ghost use Rattle.station.specs.Drive.{control, looked, wrote, ticked, canSend, betweenFrames, standsStill, setUp, settledFor, prepared, ticksToFlag, driven, opened, begun, ticksLeft, sentBy, sendOf};
 ghost use Rattle.station.specs.Parts.{withParts, fedParts, withUnderrun, tickedParts};
+ghost use Rattle.station.specs.Through.{bitsOn, Ran, Moved};
 ghost use Rattle.station.specs.Laws.Parts.{Begun};
 ghost use Rattle.station.specs.Report.{withTicks, reportOf, pagesOf, listSent, listedOf, chipAfter, rowsIn};
 ghost use Rattle.station.specs.Laws.Report.{toldRow, Room};
@@ -73,6 +78,27 @@ pub struct Parts {
 pub struct Feeding {
     pub parts: Parts,
     pub at: usize,
+}
+
+// The bits of a byte on their way, in numbers of their own that a loop holds in registers, and the ticks that went.
+pub struct Bits {
+    pub ticks: usize,
+    pub left: u8,
+    pub rest: u8,
+    pub run: u8,
+    pub owed: bool,
+}
+
+// The rest of a byte has gone.
+struct Run {
+    ticks: usize,
+    sender: Sender,
+}
+
+// Ticks between two looks at the buffer.
+struct Move {
+    ticks: usize,
+    parts: Parts,
 }
 
 // A note that fits was sent.
@@ -318,6 +344,105 @@ fn ticked_parts(p: Parts, g: Sending, l: Live, interrupts: bool) -> Parts
     }
 }
 
+// A bit of content: the ones in a row after it, and whether it owes a zero.
+fn run_after(run: u8, b: bool) -> u8
+    ensures { λ r. ⌜ r ≡ runAfter run b ⌝ }
+{
+    if b {
+        if run < 4 {
+            return run + 1;
+        }
+        return 0;
+    }
+    0
+}
+
+fn owes(run: u8, b: bool) -> bool
+    ensures { λ r. ⌜ r ≡ owes run b ⌝ }
+{
+    b & !(run < 4)
+}
+
+fn one_if(b: bool) -> usize
+    ensures { λ r. ⌜ r ≡ oneIf b ⌝ }
+    ensures { λ r. ⌜ r ≤ 1 ⌝ }
+{
+    if b { 1 } else { 0 }
+}
+
+// The zero that is owed, if one is, and the next bit.
+fn bits_on(x: Bits) -> Bits
+    requires { ⌜ 0 < x .left ⌝ }
+    requires { ⌜ x .ticks ≤ 512 ⌝ }
+    ensures { λ r. ⌜ r ≡ bitsOn x ⌝ }
+{
+    let b = x.rest % 2 == 1;
+    Bits {
+        ticks: x.ticks + one_if(x.owed) + 1,
+        left: x.left - 1,
+        rest: x.rest / 2,
+        run: run_after(x.run, b),
+        owed: owes(x.run, b),
+    }
+}
+
+// The rest of a byte, tick by tick.
+fn through(s: Sender) -> Run
+    requires { ⌜ within s ≡ true ⌝ }
+    ensures { λ r. ⌜ 1 ≤ r .ticks ⌝ }
+    ensures { λ r. ⌜ Ran (r .ticks) s (r .sender) ⌝ }
+{
+    let u = s.unit;
+    let k = s.core;
+    let left = u.byte_left();
+    let mut x = Bits {
+        ticks: 0,
+        left,
+        rest: u.byte_rest(),
+        run: k.run,
+        owed: k.owed,
+    };
+    while 0 < x.left {
+        x = bits_on(x);
+    }
+    let mut c = k;
+    c.run = x.run;
+    c.owed = x.owed;
+    Run {
+        ticks: x.ticks,
+        sender: Sender {
+            unit: LineUnit::Byte(x.left, x.rest),
+            core: c,
+        },
+    }
+}
+
+// The parts up to the next look at the buffer: the rest of the byte that is on its way, in which nothing else changes, or one tick.
+fn turned(p: Parts, g: Sending, l: Live, interrupts: bool) -> Move
+    requires { ⌜ Good g ⌝ }
+    ensures { λ r. ⌜ Moved g l interrupts (r .ticks) p (r .parts) ⌝ }
+{
+    let s = p.sender;
+    let t = p.status;
+    if s.within() {
+        let w = through(s);
+        let n = w.sender;
+        let q = Parts {
+            sender: n,
+            status: t,
+            transmit: p.transmit,
+        };
+        return Move {
+            ticks: w.ticks,
+            parts: q,
+        };
+    }
+    Move {
+        ticks: 1,
+        parts: ticked_parts(p, g, l, interrupts),
+    }
+}
+
 // The chip with these parts of channel A.
 fn with_parts(c: Chip, p: Parts) -> Chip
     ensures { λ r. ⌜ r ≡ withParts c p ⌝ }
@@ -346,10 +471,10 @@ fn drive(c: Chip, note: &[u8]) -> Went
     let l = a.live();
     let interrupts = r.wr1 / 2 % 2 == 1;
     let s = a.sender;
-    let t = a.status;
+    let status = a.status;
     let mut p = Parts {
         sender: s,
-        status: t,
+        status,
         transmit: a.transmit,
     };
     let mut i: usize = 1;
@@ -367,8 +492,9 @@ fn drive(c: Chip, note: &[u8]) -> Went
         let f = fed_parts(p, note, i);
         let q = f.parts;
         i = f.at;
-        p = ticked_parts(q, g, l, interrupts);
-        n = n + 1;
+        let t = turned(q, g, l, interrupts);
+        p = t.parts;
+        n = n + t.ticks;
     }
 }
 

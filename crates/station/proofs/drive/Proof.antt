@@ -1,5 +1,5 @@
 -- `station::drive` meets its contract: demand 3 as its loop's invariant. What is to come of the frame is the ticks that are left. Assumes nothing.
-use mathlib.Core.Path.{_≡_, refl, sym, ap, _∙_}
+use mathlib.Core.Path.{_≡_, sym, subst, _∙_}
 use Prim.Native.Nat.{ℕ, _+_, _-_, _*_}
 use native.Mathlib.Omega.{arith}
 use lib.ListN.{length, drop}
@@ -7,7 +7,10 @@ use denote.Ref.{now}
 use Rattle.line.specs.Frame.{ticksOf}
 use Rattle.line.specs.Laws.Frame.{ticks-are}
 use Rattle.station.specs.Drive.{driven, ticksLeft}
-use Rattle.station.specs.Laws.Parts.{Going, Begun, starts, turn, gone, left-over, fits-bounds, ticks-few}
+use Rattle.station.specs.Laws.Parts.{Going, starts, gone, left-over, fits-bounds, ticks-few}
+use Rattle.station.specs.Laws.Through.{turns}
+use Rattle.sender.specs.declared.Sending.{Sending}
+use Rattle.come.specs.Come.{Good}
 use borrow.Author.Needs.{needs}
 use Rattle.station.proofs.drive.Statement.{statement}
 use Rattle.station.proofs.drive.Tie as tie
@@ -32,17 +35,17 @@ loop-holds c =
 finished-requires : tie.Need-finished-requires Inv-loop μ-loop
 finished-requires c κs = search needs
 
-add-t21 : tie.Need-add-t21 Inv-loop μ-loop
-add-t21 c = let s = c .before .before .before .before .before .before .before .before .before .before .before .before in omega (arith, fits-bounds (length (now (s .args .note))) (s .pre .fits) .1)
+add-t22 : tie.Need-add-t22 Inv-loop μ-loop
+add-t22 c = let s = c .before .before .before .before .before .before .before .before .before .before .before .before in omega (arith, fits-bounds (length (now (s .args .note))) (s .pre .fits) .1)
 
-mul-t22 : tie.Need-mul-t22 Inv-loop μ-loop
-mul-t22 c = let s = c .before .before .before .before .before .before .before .before .before .before .before .before in omega (arith, fits-bounds (length (now (s .args .note))) (s .pre .fits) .1)
+mul-t23 : tie.Need-mul-t23 Inv-loop μ-loop
+mul-t23 c = let s = c .before .before .before .before .before .before .before .before .before .before .before .before in omega (arith, fits-bounds (length (now (s .args .note))) (s .pre .fits) .1)
 
-add-t23 : tie.Need-add-t23 Inv-loop μ-loop
-add-t23 c = let s = c .before .before .before .before .before .before .before .before .before .before .before .before in omega (arith, fits-bounds (length (now (s .args .note))) (s .pre .fits) .1)
+add-t24 : tie.Need-add-t24 Inv-loop μ-loop
+add-t24 c = let s = c .before .before .before .before .before .before .before .before .before .before .before .before in omega (arith, fits-bounds (length (now (s .args .note))) (s .pre .fits) .1)
 
-sub-t24 : tie.Need-sub-t24 Inv-loop μ-loop
-sub-t24 c =
+sub-t25 : tie.Need-sub-t25 Inv-loop μ-loop
+sub-t25 c =
     let s = c .before .before .before .before .before .before .before .before .before .before .before .before in
     let l = c .before .before .before .loop in
     let note = now (s .args .note) in
@@ -63,32 +66,40 @@ returns c =
 fed-parts-requires : tie.Need-fed-parts-requires Inv-loop μ-loop
 fed-parts-requires c κs = search needs
 
-ticked-parts-requires : tie.Need-ticked-parts-requires Inv-loop μ-loop
-ticked-parts-requires c κs = search needs
+turned-requires : tie.Need-turned-requires Inv-loop μ-loop
+turned-requires c κs =
+    subst (λ (g : Sending). Good g) (sym (c .before .before .before .before .before .before .before .before .before .before .sending .ensures)) (c .before .before .before .before .before .before .before .before .before .before .before .before .before .before .pre .stands .good)
 
 add-n : tie.Need-add-n Inv-loop μ-loop
 add-n c =
-    let s = c .before .before .before .before .before .before .before .before .before .before .before .before .before .before .before in
-    let l = c .before .before .before .before .before .before .loop in
-    omega (arith, l .inv .count, ticks-few (now (s .args .note)) (s .pre .fits))
+    let s = c .before .before .before .before .before .before .before .before .before .before .before .before .before .before .before .before .before in
+    let l = c .before .before .before .before .before .before .before .before .loop in
+    let t = c .before .before .turned in
+    let note = now (s .args .note) in
+    let moved = rw (c .before .before .before .before .before .before .before .before .before .before .before .before .before .sending .ensures, c .before .before .before .before .before .before .before .before .before .before .before .before .live .ensures, c .before .before .before .before .fed-parts .ensures) at (t .ensures) in
+    let e = turns (s .args .c) _ note (s .pre .stands .pointer) (s .pre .stands .good) (l .p) (l .i) (l .n) (t .result .ticks) (t .result .parts) (l .inv) (sym (c .before .before .before .before .before .before .finished .ensures) ∙ c .before .before .before .before .before .if1 .left) moved in
+    omega (arith, e .1 .count, ticks-few note (s .pre .fits))
 
 loop-less : tie.Need-loop-less Inv-loop μ-loop
 loop-less c =
-    let s = c .before .before .before .before .before .before .before .before .before .before .before .before .before .before .before in
-    let l = c .before .before .before .before .before .before .loop in
+    let s = c .before .before .before .before .before .before .before .before .before .before .before .before .before .before .before .before .before in
+    let l = c .before .before .before .before .before .before .before .before .loop in
+    let t = c .before .before .turned in
     let note = now (s .args .note) in
-    omega (
-      arith,
-      left-over (s .args .c) _ note (s .pre .stands .pointer) (s .pre .stands .good) (l .p) (l .i) (l .n) (l .inv) (sym (c .before .before .before .before .finished .ensures) ∙ c .before .before .before .if1 .left),
-    )
+    let moved = rw (c .before .before .before .before .before .before .before .before .before .before .before .before .before .sending .ensures, c .before .before .before .before .before .before .before .before .before .before .before .before .live .ensures, c .before .before .before .before .fed-parts .ensures) at (t .ensures) in
+    let f = sym (c .before .before .before .before .before .before .finished .ensures) ∙ c .before .before .before .before .before .if1 .left in
+    let e = turns (s .args .c) _ note (s .pre .stands .pointer) (s .pre .stands .good) (l .p) (l .i) (l .n) (t .result .ticks) (t .result .parts) (l .inv) f moved in
+    omega (arith, e .0, left-over (s .args .c) _ note (s .pre .stands .pointer) (s .pre .stands .good) (l .p) (l .i) (l .n) (l .inv) f)
 
 loop-again : tie.Need-loop-again Inv-loop μ-loop
 loop-again c =
-    let s = c .before .before .before .before .before .before .before .before .before .before .before .before .before .before .before in
-    let l = c .before .before .before .before .before .before .loop in
+    let s = c .before .before .before .before .before .before .before .before .before .before .before .before .before .before .before .before .before in
+    let l = c .before .before .before .before .before .before .before .before .loop in
+    let t = c .before .before .turned in
     let note = now (s .args .note) in
-    rw (c .ticked-parts .ensures, c .before .before .before .before .before .before .before .before .before .before .before .sending .ensures, c .before .before .before .before .before .before .before .before .before .before .live .ensures, c .before .before .fed-parts .ensures)
-    (turn (s .args .c) _ note (s .pre .stands .pointer) (s .pre .stands .good) (l .p) (l .i) (l .n) (l .inv) (sym (c .before .before .before .before .finished .ensures) ∙ c .before .before .before .if1 .left))
+    let moved = rw (c .before .before .before .before .before .before .before .before .before .before .before .before .before .sending .ensures, c .before .before .before .before .before .before .before .before .before .before .before .before .live .ensures, c .before .before .before .before .fed-parts .ensures) at (t .ensures) in
+    let e = turns (s .args .c) _ note (s .pre .stands .pointer) (s .pre .stands .good) (l .p) (l .i) (l .n) (t .result .ticks) (t .result .parts) (l .inv) (sym (c .before .before .before .before .before .before .finished .ensures) ∙ c .before .before .before .before .before .if1 .left) moved in
+    rw (c .before .before .before .before .fed-parts .ensures) (e .1)
 
 pub drive-spec : {M : Type 1} → statement M
-drive-spec = tie.close (tie.spec Inv-loop μ-loop sending-requires live-requires loop-holds finished-requires add-t21 mul-t22 add-t23 sub-t24 with-parts-requires returns fed-parts-requires ticked-parts-requires add-n loop-less loop-again)
+drive-spec = tie.close (tie.spec Inv-loop μ-loop sending-requires live-requires loop-holds finished-requires add-t22 mul-t23 add-t24 sub-t25 with-parts-requires returns fed-parts-requires turned-requires add-n loop-less loop-again)

@@ -1,0 +1,92 @@
+-- Most transmit ticks, in a form of their own: with no break and inside a byte of SDLC nothing but the sender changes. Assumes nothing.
+use mathlib.Core.Path.{_≡_, refl, ap, _∙_}
+use mathlib.Core.Bool.{Bool, true, false, not, _&&_, _||_}
+use Rattle.common.specs.Choice.{if_then_else_}
+use Rattle.common.specs.Mode.{inSdlc}
+use Rattle.common.specs.Tools.{by-test, void, both-left, both-right, not-true}
+use Rattle.common.specs.declared.Mode.{Mode}
+use Rattle.common.specs.declared.Mode.the-variants.{NoMode, Asynchronous, Sdlc}
+use Rattle.line.specs.Bits.{oneIf}
+use Rattle.line.specs.Check.{differs}
+use Rattle.sender.specs.declared.Sender.{Sender}
+use Rattle.sender.specs.declared.Sending.{Sending}
+use Rattle.sender.specs.declared.Ticked.{Ticked}
+use Rattle.sender.specs.Sender.{tickSdlc, withBreak, tick}
+use Rattle.sender.specs.Within.{within, tickWithin}
+use Rattle.sender.specs.Laws.Tick.{tick-sdlc}
+use Rattle.sender.specs.Laws.Within.{sdlc-within, within-loaded, within-latch}
+use Rattle.settings.specs.Settings.{transmitOn, receivingOf, sendingOf}
+use Rattle.receiver.specs.Receiver.{hunting}
+use Rattle.channel.specs.declared.Live.{Live}
+use Rattle.channel.specs.declared.Status.{Status}
+use Rattle.channel.specs.declared.Channel.{Channel}
+use Rattle.channel.specs.declared.Answer.the-variants.{Gave}
+use Rattle.channel.specs.declared.Answered.{Answered}
+use Rattle.channel.specs.Status.{changed, noticed, status}
+use Rattle.channel.specs.Channel.{withSender, withStatus, withTransmit, answered, liveOf, settled}
+use Rattle.channel.specs.Events.{afterTick, transmitted, transmitTick}
+use Rattle.channel.specs.Within.{sendsWithin, withinByte, sentOn, tickedWithin}
+
+-- the status rule sees no change where there is none
+
+differs-same : (b : Bool) → differs b b ≡ false
+differs-same true = refl
+differs-same false = refl
+
+rises-same : (b : Bool) → (not b && b) ≡ false
+rises-same true = refl
+rises-same false = refl
+
+changed-same : (l : Live) → changed l l ≡ false
+unfolding changed
+changed-same l = rw (differs-same (l .abort), rises-same (l .underrun), differs-same (l .cts), differs-same (l .hunt), differs-same (l .dcd))
+
+pub noticed-same : (s : Status) (l : Live) → noticed s l l ≡ s
+unfolding noticed
+noticed-same s l = by-test (λ (t : Status). t ≡ s) (s .latched) (λ e. refl) (λ e. ap (λ (b : Bool). if b then status true l else s) (changed-same l))
+
+pub or-none : (a b : Bool) → (a || (false && b)) ≡ a
+or-none true b = refl
+or-none false b = refl
+
+-- a tick that loads nothing and leaves the latch
+pub sent-on : (c : Channel) (t : Ticked) → t .loaded ≡ false → t .sender .core .latch ≡ c .sender .core .latch → transmitted c t ≡ sentOn c t
+unfolding settled liveOf
+sent-on c t l e =
+    ap (λ (b : Bool). there (c .transmit || (b && transmitOn (c .registers .wr1))) (t .sender .core .latch)) l
+    ∙ ap (λ (m : Bool). there m (t .sender .core .latch)) (or-none (c .transmit) (transmitOn (c .registers .wr1)))
+    ∙ ap (there (c .transmit)) e
+    ∙ ap (λ (s : Status). answered (Gave (oneIf (t .bit))) (withStatus (withSender c (t .sender)) s)) (noticed-same (c .status) (liveOf c))
+  where
+    live : Bool → Live
+    live u = record {
+      abort = c .receiver .broken;
+      underrun = u;
+      cts = c .lines .cts;
+      hunt = hunting (receivingOf (c .registers) (c .lines)) (c .receiver);
+      dcd = c .lines .dcd;
+    }
+
+    there : Bool → Bool → Answered
+    there m u = answered (Gave (oneIf (t .bit))) (withStatus (withTransmit (withSender c (t .sender)) m) (noticed (c .status) (liveOf c) (live u)))
+
+-- what the test says
+
+in-sdlc : (m : Mode) → inSdlc m ≡ true → m ≡ Sdlc
+in-sdlc NoMode e = void e
+in-sdlc Asynchronous e = void e
+in-sdlc Sdlc e = refl
+
+pub tick-within : (g : Sending) (s : Sender) → sendsWithin g s ≡ true → tick g s ≡ tickWithin s
+tick-within g s w =
+    let rest = both-right (inSdlc (g .mode)) (not (g .broken) && within s) w in
+    let off = not-true (g .broken) (both-left (not (g .broken)) (within s) rest) in
+    tick-sdlc g s (in-sdlc (g .mode) (both-left (inSdlc (g .mode)) (not (g .broken) && within s) w))
+    ∙ ap (λ (b : Bool). withBreak b (tickSdlc g s)) off
+    ∙ sdlc-within g s (both-right (not (g .broken)) (within s) rest)
+
+pub within-tick : (c : Channel) → withinByte c ≡ true → transmitTick c ≡ tickedWithin c
+unfolding withinByte transmitTick tickedWithin
+within-tick c w =
+    ap (transmitted c) (tick-within (sendingOf (c .registers) (c .lines)) (c .sender) w)
+    ∙ sent-on c (tickWithin (c .sender)) (within-loaded (c .sender)) (within-latch (c .sender))
