@@ -11,7 +11,11 @@ use Rattle.sender.specs.declared.Sender.{Sender}
 use Rattle.sender.specs.declared.Sending.{Sending}
 use Rattle.sender.specs.declared.Ticked.{Ticked}
 use Rattle.sender.specs.Sender.{tick, within, tickWithin, written}
+use Rattle.receiver.specs.declared.Receiver.{Receiver}
+use Rattle.receiver.specs.declared.Receiving.{Receiving}
 use Rattle.receiver.specs.declared.Heard.{Heard}
+use Rattle.receiver.specs.Sdlc as hearing
+use Rattle.receiver.specs.Sdlc.{movedOn}
 use Rattle.receiver.specs.Receiver.{hear}
 use Rattle.settings.specs.declared.Lines.{Lines}
 use Rattle.channel.specs.declared.Sources.{Sources}
@@ -66,6 +70,16 @@ heardBy c h = withQueue (withReceiver c (h .receiver)) (queued (c .queue) h)
 
 unfoldable pub receiveTick : Channel → Bool → Channel
 receiveTick c b = settled c (heardBy c (hear (receivingOf (c .registers) (c .lines)) (c .receiver) b))
+
+-- most receive ticks, in a form of their own: in SDLC, on, and inside a character, nothing but the receiver changes
+abbrev pub hearsOn : Receiving → Receiver → Bool → Bool
+hearsOn g v b = inSdlc (g .mode) && (g .on && hearing.within v b)
+
+unfoldable pub hearsWithin : Channel → Bool → Bool
+hearsWithin c b = hearsOn (receivingOf (c .registers) (c .lines)) (c .receiver) b
+
+abbrev pub heardWithin : Channel → Bool → Channel
+heardWithin c b = withReceiver c (movedOn (c .receiver) b)
 
 -- "set DCD and CTS": both at once
 unfoldable pub linesSet : Channel → Bool → Bool → Channel

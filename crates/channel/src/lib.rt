@@ -13,13 +13,14 @@ use settings::Registers;
 use settings::mode_of;
 use settings::not_built;
 ghost use mathlib.Core.Path.{_≡_};
+ghost use mathlib.Core.Bool.{true};
 ghost use Rattle.line.specs.Bits.{oneIf};
 ghost use Rattle.channel.specs.Answer.{answerNumber, answerValue};
 ghost use Rattle.channel.specs.Status.{quietLive, changed, noticed, shownBits, afresh};
 ghost use Rattle.channel.specs.Channel.{noSources, liveOf, settled, resetWith};
 ghost use Rattle.channel.specs.Control.{commanded, preset, commandStep, presetStep, writeWr0, setWr1, setWr2, setWr3, sameMode, inMode, setWr4, setRegister, controlWritten};
 ghost use Rattle.channel.specs.Control.{rr0, rr1Now, readRegister, controlRead};
-ghost use Rattle.channel.specs.Events.{dataWritten, dataRead, afterTick, transmitted, transmitTick, withinByte, tickedWithin, queued, heardBy, receiveTick, linesSet, specialWaits, receivePending, pendingIn};
+ghost use Rattle.channel.specs.Events.{dataWritten, dataRead, afterTick, transmitted, transmitTick, withinByte, tickedWithin, queued, heardBy, receiveTick, hearsWithin, heardWithin, linesSet, specialWaits, receivePending, pendingIn};
 
 // Which of the two channels.
 pub enum Side {
@@ -651,6 +652,28 @@ impl Channel {
         let mut c = self;
         c.receiver = v;
         c.queue = q;
+        c
+    }
+
+    // A receive tick changes nothing but the receiver: in SDLC, on, and inside a character.
+    pub fn hears_within(self, bit: bool) -> bool
+        ensures { λ r. ⌜ r ≡ hearsWithin self bit ⌝ }
+    {
+        let r = self.registers;
+        let v = self.receiver;
+        let g = r.receiving(self.lines);
+        let m = g.mode;
+        in_sdlc(m) & (g.on & v.within(bit))
+    }
+
+    // That tick.
+    pub fn hear_within(self, bit: bool) -> Channel
+        requires { ⌜ hearsWithin self bit ≡ true ⌝ }
+        ensures { λ r. ⌜ r ≡ heardWithin self bit ⌝ }
+    {
+        let v = self.receiver;
+        let mut c = self;
+        c.receiver = v.hear_within(bit);
         c
     }
 

@@ -1,17 +1,18 @@
 -- Laws of the receiver: what only receivers with a history have, and that SDLC hands over plain entries. Assumes nothing.
-use mathlib.Core.Path.{_≡_, ap}
-use mathlib.Core.Bool.{Bool, true, false}
-use Prim.Native.Nat.{ℕ, _+_, _≤_}
+use mathlib.Core.Path.{_≡_, refl, sym, ap}
+use mathlib.Core.Bool.{Bool, true, false, not, _&&_, true≢false}
+use Prim.Native.Nat.{ℕ, _+_, _≤_, _<_}
 use native.Mathlib.Omega.{arith}
 use lib.Dec.{eqb, ltb}
-use borrow.Author.Tests.{ltb-true}
+use borrow.Author.Tests.{ltb-true, ne-eqb, not-true}
 use Rattle.common.specs.Tools.{if-elim, by-test}
 use Rattle.common.specs.declared.Mode.{Mode}
 use Rattle.common.specs.declared.Mode.the-variants.{NoMode, Asynchronous, Sdlc}
 use Rattle.line.specs.Bits.{oneIf}
+use Rattle.line.specs.Check.{sdlc, checkStep}
 use Rattle.queue.specs.Laws.{Plain, plain}
-use Rattle.receiver.specs.State.{Receiving, Assembly, Receiver, Heard, fullDelay, content, following, assembling}
-use Rattle.receiver.specs.Sdlc.{lastBit, spilled, oldestBit, wrong, accept, push, deaf, one, zeroBit}
+use Rattle.receiver.specs.State.{Receiving, Assembly, Receiver, Heard, chars, fullDelay, content, following, assembling, silent}
+use Rattle.receiver.specs.Sdlc.{shiftIn, lastBit, spilled, oldestBit, wrong, accept, push, deaf, one, zeroBit, fewerThan, within, movedOn}
 use Rattle.receiver.specs.Asynchronous.{size, begun, asynchronous}
 use Rattle.receiver.specs.Receiver.{reset, enterHunt, modeChanged, presetCheck, hearIn, hear}
 
@@ -143,3 +144,58 @@ module _ (g : Receiving) (s : Receiver) (t : SoundReceiver s) where
       modes NoMode = t
       modes Asynchronous = if-elim SoundHeard (g .on) (asynchronous-sound b) (mode-changed-sound s false)
       modes Sdlc = if-elim SoundHeard (g .on) (if-elim SoundHeard b one-sound zero-sound) (mode-changed-sound s true)
+
+-- Most ticks, in a form of their own: what the test says, and that the tick is that one
+
+and-left : (a b : Bool) → (a && b) ≡ true → a ≡ true
+and-left true b e = refl
+and-left false b e = e
+
+and-right : (a b : Bool) → (a && b) ≡ true → b ≡ true
+and-right true b e = e
+and-right false b e = absurd (true≢false (sym e))
+
+pub record Within (s : Receiver) (b : Bool) : Type 0 where
+  pub whole : s .broken ≡ false
+  pub found : s .content .hunt ≡ false
+  pub kept : s .content .skip ≡ false
+  pub few : ltb (s .content .ones) (fewerThan b) ≡ true
+  pub full : ltb (s .content .delay) fullDelay ≡ false
+  pub inside : ltb (s .content .chars .count) lastBit ≡ true
+
+pub within-facts : (s : Receiver) (b : Bool) → within s b ≡ true → Within s b
+unfolding within
+within-facts s b w =
+    let c = s .content in
+    let w1 = and-right (not (s .broken)) _ w in
+    let w2 = and-right (not (c .hunt)) _ w1 in
+    let w3 = and-right (not (c .skip)) _ w2 in
+    let w4 = and-right (ltb (c .ones) (fewerThan b)) _ w3 in
+    record {
+      whole = not-true (s .broken) (and-left (not (s .broken)) _ w);
+      found = not-true (c .hunt) (and-left (not (c .hunt)) _ w1);
+      kept = not-true (c .skip) (and-left (not (c .skip)) _ w2);
+      few = and-left (ltb (c .ones) (fewerThan b)) _ w3;
+      full = not-true (ltb (c .delay) fullDelay) (and-left (not (ltb (c .delay) fullDelay)) _ w4);
+      inside = and-right (not (ltb (c .delay) fullDelay)) (ltb (c .chars .count) lastBit) w4;
+    }
+
+pub within-few : (s : Receiver) (b : Bool) → Within s b → s .content .ones < 6
+within-few s true w = ltb-true (s .content .ones) 6 (w .few)
+within-few s false w = omega (arith, ltb-true (s .content .ones) 5 (w .few))
+
+pushed-within : (g : Receiving) (s : Receiver) (o : ℕ) (b : Bool) → ltb (s .content .delay) fullDelay ≡ false → ltb (s .content .chars .count) lastBit ≡ true
+    → (x : Bool) → push g s o x b ≡ silent (following s (content false false o (spilled (s .content .delay) b)
+    (chars (s .content .chars .count + 1) (shiftIn (oldestBit (s .content .delay)) (s .content .chars .part)) (s .content .chars .have) (s .content .chars .held)
+    (checkStep sdlc (s .content .chars .check) (oldestBit (s .content .delay))))) x)
+unfolding push accept
+pushed-within g s o b d c x = simp (d, c)
+
+pub hear-within : (g : Receiving) (s : Receiver) (b : Bool) → g .mode ≡ Sdlc → g .on ≡ true → Within s b → hear g s b ≡ silent (movedOn s b)
+unfolding hear one zeroBit
+hear-within g s true m o w = simp (m, o, w .found, w .few, w .kept, pushed-within g s (s .content .ones + 1) true (w .full) (w .inside) (s .broken))
+hear-within g s false m o w =
+    let l = ltb-true (s .content .ones) 5 (w .few) in
+    let six = ne-eqb (s .content .ones) 6 (omega (arith, l)) in
+    let five = ne-eqb (s .content .ones) 5 (omega (arith, l)) in
+    simp (m, o, six, w .found, w .kept, five, pushed-within g s 0 false (w .full) (w .inside) false, w .whole)

@@ -86,3 +86,28 @@ zeroBit g s =
     else (if deaf c then silent (following s (content (c .hunt) (c .skip) 0 (c .delay) (c .chars)) false)
     else (if eqb (c .ones) 5 then silent (following s (content false false 0 (c .delay) (c .chars)) false)
     else push g s 0 false false))
+
+-- Most ticks, in a form of their own: a bit of content behind a full delay that ends no character, no flag and no abort. Nothing is handed over,
+-- and hunt and D7 stay off
+
+-- so many ones in a row may stand before such a bit
+abbrev pub fewerThan : Bool → ℕ
+fewerThan true = 6
+fewerThan false = 5
+
+abbrev pub onesAfter : Bool → ℕ → ℕ
+onesAfter true o = o + 1
+onesAfter false o = 0
+
+unfoldable pub within : Receiver → Bool → Bool
+within s b =
+    let c = s .content in
+    not (s .broken) && (not (c .hunt) && (not (c .skip) && (ltb (c .ones) (fewerThan b) && (not (ltb (c .delay) fullDelay) && ltb (c .chars .count) lastBit))))
+
+abbrev pub movedOn : Receiver → Bool → Receiver
+movedOn s b =
+    let c = s .content in
+    let k = c .chars in
+    let out = oldestBit (c .delay) in
+    following s (content false false (onesAfter b (c .ones)) (spilled (c .delay) b)
+    (chars (k .count + 1) (shiftIn out (k .part)) (k .have) (k .held) (checkStep sdlc (k .check) out))) (s .broken)

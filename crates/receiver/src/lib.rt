@@ -5,10 +5,11 @@ use line::SDLC;
 use line::check_step;
 use queue::Entry;
 ghost use mathlib.Core.Path.{_≡_};
-ghost use Prim.Native.Nat.{_≤_};
+ghost use mathlib.Core.Bool.{true};
+ghost use Prim.Native.Nat.{_≤_, _<_};
 ghost use Rattle.line.specs.Bits.{oneIf};
 ghost use Rattle.receiver.specs.State.{noChars, noCharacter, following, assembling, silent};
-ghost use Rattle.receiver.specs.Sdlc.{counted, shiftIn, wrong, accept, push, closing, past, one, zeroBit};
+ghost use Rattle.receiver.specs.Sdlc.{counted, shiftIn, wrong, accept, push, closing, past, one, zeroBit, fewerThan, onesAfter, within, movedOn};
 ghost use Rattle.receiver.specs.Asynchronous.{size, begun, bitsWith, withBit, finished, stopped, released, asynchronous};
 ghost use Rattle.receiver.specs.Receiver.{reset, dropped, enterHunt, modeChanged, presetCheck, hunting, hear};
 
@@ -98,6 +99,21 @@ fn counted(ones: u8) -> u8
     ensures { λ r. ⌜ r ≡ counted ones ⌝ }
 {
     if ones < ABORT { ones + 1 } else { ABORT }
+}
+
+// So many ones may stand before a bit of content that ends no flag, no abort and no inserted zero.
+fn fewer_than(b: bool) -> u8
+    ensures { λ r. ⌜ r ≡ fewerThan b ⌝ }
+{
+    if b { FLAG } else { INSERTED }
+}
+
+// The ones in a row after a bit.
+fn ones_after(b: bool, ones: u8) -> u8
+    requires { ⌜ ones < 6 ⌝ }
+    ensures { λ r. ⌜ r ≡ onesAfter b ones ⌝ }
+{
+    if b { ones + 1 } else { 0 }
 }
 
 // A bit enters a character from above.
@@ -561,6 +577,43 @@ impl Receiver {
         }
         let s = self.assembling(a.with_bit(left - 1, b));
         s.silent()
+    }
+
+    // In SDLC this bit is content behind a full delay, and ends no character, no flag and no abort.
+    pub fn within(self, bit: bool) -> bool
+        ensures { λ r. ⌜ r ≡ within self bit ⌝ }
+    {
+        let c = self.content;
+        let k = c.chars;
+        !self.broken
+            & (!c.hunt
+                & (!c.skip & ((c.ones < fewer_than(bit)) & (!(c.delay < FULL) & (k.count < LAST)))))
+    }
+
+    // Such a bit. It is small, so that the calls of a chip hold it in themselves (bench/README.md).
+    pub fn hear_within(self, b: bool) -> Receiver
+        requires { ⌜ within self b ≡ true ⌝ }
+        ensures { λ r. ⌜ r ≡ movedOn self b ⌝ }
+    {
+        let was = self.content;
+        let k = was.chars;
+        let d = was.delay;
+        let out = d / 64 % 2 == 1;
+        let chars = Chars {
+            count: k.count + 1,
+            part: shift_in(out, k.part),
+            have: k.have,
+            held: k.held,
+            check: check_step(SDLC, k.check, out),
+        };
+        let content = Content {
+            hunt: false,
+            skip: false,
+            ones: ones_after(b, was.ones),
+            delay: FULL + d % 64 * 2 + bit(b),
+            chars,
+        };
+        self.following(content, self.broken)
     }
 
     // A receive tick.
