@@ -1,5 +1,5 @@
--- Most transmit ticks, in a form of their own and no part of 01: in SDLC, with no break and inside a byte, nothing but the sender changes.
--- That it is the tick is said in Laws/Within. Assumes nothing.
+-- Most ticks, in a form of their own and no part of 01: in SDLC, inside a byte that is sent with no break, nothing but the sender changes, and
+-- inside a character that is heard nothing but the receiver. That they are the ticks is said in Laws/Within. Assumes nothing.
 use mathlib.Core.Bool.{Bool, not, _&&_}
 use Rattle.common.specs.Mode.{inSdlc}
 use Rattle.line.specs.Bits.{oneIf}
@@ -7,11 +7,15 @@ use Rattle.sender.specs.declared.Sender.{Sender}
 use Rattle.sender.specs.declared.Sending.{Sending}
 use Rattle.sender.specs.declared.Ticked.{Ticked}
 use Rattle.sender.specs.Within.{within, tickWithin}
-use Rattle.settings.specs.Settings.{sendingOf}
+use Rattle.receiver.specs.declared.Receiver.{Receiver}
+use Rattle.receiver.specs.declared.Receiving.{Receiving}
+use Rattle.receiver.specs.Within as hearing
+use Rattle.receiver.specs.Within.{movedOn}
+use Rattle.settings.specs.Settings.{receivingOf, sendingOf}
 use Rattle.channel.specs.declared.Answer.the-variants.{Gave}
 use Rattle.channel.specs.declared.Answered.{Answered}
 use Rattle.channel.specs.declared.Channel.{Channel}
-use Rattle.channel.specs.Channel.{answered, withSender}
+use Rattle.channel.specs.Channel.{answered, withSender, withReceiver}
 
 abbrev pub sendsWithin : Sending → Sender → Bool
 sendsWithin g s = inSdlc (g .mode) && (not (g .broken) && within s)
@@ -24,3 +28,12 @@ sentOn c t = answered (Gave (oneIf (t .bit))) (withSender c (t .sender))
 
 unfoldable pub tickedWithin : Channel → Answered
 tickedWithin c = sentOn c (tickWithin (c .sender))
+
+abbrev pub hearsOn : Receiving → Receiver → Bool → Bool
+hearsOn g v b = inSdlc (g .mode) && (g .on && hearing.within v b)
+
+unfoldable pub hearsWithin : Channel → Bool → Bool
+hearsWithin c b = hearsOn (receivingOf (c .registers) (c .lines)) (c .receiver) b
+
+abbrev pub heardWithin : Channel → Bool → Channel
+heardWithin c b = withReceiver c (movedOn (c .receiver) b)

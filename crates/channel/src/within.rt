@@ -1,15 +1,15 @@
-// Most transmit ticks, in a form of their own: nothing but the sender changes. A chip does them with no further call (bench/README.md).
-// Assumes nothing.
+// Most ticks, in a form of their own: nothing but the sender, or nothing but the receiver, changes. A chip does them with no further call
+// (bench/README.md). Assumes nothing.
 use crate::Answer;
 use crate::Answered;
 use crate::Channel;
 use crate::events::cell;
 use common::in_sdlc;
 ghost use mathlib.Core.Path.{_≡_};
-ghost use Rattle.channel.specs.Within.{withinByte, tickedWithin};
+ghost use Rattle.channel.specs.Within.{withinByte, tickedWithin, hearsWithin, heardWithin};
 
 impl Channel {
-    // In SDLC, with no break and inside a byte.
+    // A transmit tick in SDLC, with no break and inside a byte.
     pub fn within(self) -> bool
         ensures { λ r. ⌜ r ≡ withinByte self ⌝ }
     {
@@ -33,5 +33,26 @@ impl Channel {
             answer: Answer::Gave(cell(t.bit)),
             channel: c,
         }
+    }
+
+    // A receive tick in SDLC, on, and inside a character.
+    pub fn hears_within(self, bit: bool) -> bool
+        ensures { λ r. ⌜ r ≡ hearsWithin self bit ⌝ }
+    {
+        let r = self.registers;
+        let v = self.receiver;
+        let g = r.receiving(self.lines);
+        let m = g.mode;
+        in_sdlc(m) & (g.on & v.within(bit))
+    }
+
+    // The tick, if so.
+    pub fn hear_within(self, bit: bool) -> Channel
+        ensures { λ r. ⌜ r ≡ heardWithin self bit ⌝ }
+    {
+        let v = self.receiver;
+        let mut c = self;
+        c.receiver = v.hear_within(bit);
+        c
     }
 }

@@ -227,6 +227,12 @@ impl Chip {
                 return self.refused(Refusal::Level);
             }
             let a = self.a;
+            if a.hears_within(bit == 1) {
+                return Outcome {
+                    answer: Answer::Done,
+                    chip: self.with_a(a.hear_within(bit == 1)),
+                };
+            }
             return Outcome {
                 answer: Answer::Done,
                 chip: self.with_a(a.receive_tick(bit == 1)),
@@ -237,6 +243,12 @@ impl Chip {
                 return self.refused(Refusal::Level);
             }
             let b = self.b;
+            if b.hears_within(bit == 1) {
+                return Outcome {
+                    answer: Answer::Done,
+                    chip: self.with_b(b.hear_within(bit == 1)),
+                };
+            }
             return Outcome {
                 answer: Answer::Done,
                 chip: self.with_b(b.receive_tick(bit == 1)),

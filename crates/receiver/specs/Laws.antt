@@ -1,4 +1,5 @@
 -- Laws of the receiver: what only receivers with a history have, and that SDLC hands over plain entries. Assumes nothing.
+pub mod Within
 use mathlib.Core.Path.{_≡_, ap}
 use mathlib.Core.Bool.{Bool, true, false}
 use Prim.Native.Nat.{ℕ, _+_, _≤_}

@@ -1,6 +1,7 @@
 // The receiver of one channel, SDLC and asynchronous, a bit at a time. It knows no register: it is handed its settings. Assumes nothing.
 mod asynchronous;
 mod sdlc;
+mod within;
 
 use common::Mode;
 use line::ONES;

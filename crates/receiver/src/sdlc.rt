@@ -14,18 +14,18 @@ ghost use mathlib.Core.Path.{_≡_};
 ghost use Rattle.receiver.specs.Sdlc.{counted, shiftIn, wrong, accept, push, closing, past, one, zeroBit};
 
 // The least of the full delays.
-const FULL: u8 = 128;
+pub(crate) const FULL: u8 = 128;
 
 // The place of a character's last bit.
-const LAST: u8 = 7;
+pub(crate) const LAST: u8 = 7;
 
 // What a good frame leaves in the check.
 const REMAINDER: u16 = 0x1D0F;
 
 // Ones in a row before a dropped zero, before a flag's last zero, and in an abort.
-const INSERTED: u8 = 5;
+pub(crate) const INSERTED: u8 = 5;
 
-const FLAG: u8 = 6;
+pub(crate) const FLAG: u8 = 6;
 
 const ABORT: u8 = 7;
 
@@ -33,14 +33,14 @@ const ABORT: u8 = 7;
 const EVERYONE: u8 = 0xFF;
 
 // Ones in a row; more than an abort's are counted as its seven.
-fn counted(ones: u8) -> u8
+pub(crate) fn counted(ones: u8) -> u8
     ensures { λ r. ⌜ r ≡ counted ones ⌝ }
 {
     if ones < ABORT { ones + 1 } else { ABORT }
 }
 
 // A bit enters a character from above.
-fn shift_in(b: bool, part: u8) -> u8
+pub(crate) fn shift_in(b: bool, part: u8) -> u8
     ensures { λ r. ⌜ r ≡ shiftIn b part ⌝ }
 {
     if b { part / 2 + 128 } else { part / 2 }

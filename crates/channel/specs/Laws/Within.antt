@@ -1,5 +1,6 @@
--- Most transmit ticks, in a form of their own: with no break and inside a byte of SDLC nothing but the sender changes. Assumes nothing.
-use mathlib.Core.Path.{_≡_, refl, ap, _∙_}
+-- Most ticks, in a form of their own: inside a byte of SDLC a transmit tick changes nothing but the sender, and inside a character a receive
+-- tick nothing but the receiver. Assumes nothing.
+use mathlib.Core.Path.{_≡_, refl, sym, ap, _∙_}
 use mathlib.Core.Bool.{Bool, true, false, not, _&&_, _||_}
 use Rattle.common.specs.Choice.{if_then_else_}
 use Rattle.common.specs.Mode.{inSdlc}
@@ -16,7 +17,13 @@ use Rattle.sender.specs.Within.{within, tickWithin}
 use Rattle.sender.specs.Laws.Tick.{tick-sdlc}
 use Rattle.sender.specs.Laws.Within.{sdlc-within, within-loaded, within-latch}
 use Rattle.settings.specs.Settings.{transmitOn, receivingOf, sendingOf}
-use Rattle.receiver.specs.Receiver.{hunting}
+use Rattle.receiver.specs.declared.Receiver.{Receiver}
+use Rattle.receiver.specs.declared.Heard.{Heard}
+use Rattle.receiver.specs.State.{silent}
+use Rattle.receiver.specs.Receiver.{huntingIn, hunting}
+use Rattle.receiver.specs.Within as hearing
+use Rattle.receiver.specs.Within.{movedOn}
+use Rattle.receiver.specs.Laws.Within.{inside, hear-within}
 use Rattle.channel.specs.declared.Live.{Live}
 use Rattle.channel.specs.declared.Status.{Status}
 use Rattle.channel.specs.declared.Channel.{Channel}
@@ -24,8 +31,8 @@ use Rattle.channel.specs.declared.Answer.the-variants.{Gave}
 use Rattle.channel.specs.declared.Answered.{Answered}
 use Rattle.channel.specs.Status.{changed, noticed, status}
 use Rattle.channel.specs.Channel.{withSender, withStatus, withTransmit, answered, liveOf, settled}
-use Rattle.channel.specs.Events.{afterTick, transmitted, transmitTick}
-use Rattle.channel.specs.Within.{sendsWithin, withinByte, sentOn, tickedWithin}
+use Rattle.channel.specs.Events.{afterTick, transmitted, transmitTick, heardBy, receiveTick}
+use Rattle.channel.specs.Within.{sendsWithin, withinByte, sentOn, tickedWithin, hearsWithin, heardWithin}
 
 -- the status rule sees no change where there is none
 
@@ -90,3 +97,31 @@ unfolding withinByte transmitTick tickedWithin
 within-tick c w =
     ap (transmitted c) (tick-within (sendingOf (c .registers) (c .lines)) (c .sender) w)
     ∙ sent-on c (tickWithin (c .sender)) (within-loaded (c .sender)) (within-latch (c .sender))
+
+-- Receiving: a tick that hands nothing over and leaves hunt and D7
+
+hunt-kept : (m : Mode) (v : Receiver) (b : Bool) → v .content .hunt ≡ false → huntingIn m (movedOn v b) ≡ huntingIn m v
+unfolding movedOn
+hunt-kept NoMode v b e = refl
+hunt-kept Asynchronous v b e = refl
+hunt-kept Sdlc v b e = sym e
+
+heard-on : (c : Channel) (b : Bool) → c .receiver .content .hunt ≡ false → settled c (heardBy c (silent (movedOn (c .receiver) b))) ≡ heardWithin c b
+unfolding settled liveOf movedOn
+heard-on c b e =
+    ap (λ (h : Bool). withStatus (heardWithin c b) (noticed (c .status) (liveOf c) (live h))) (hunt-kept (receivingOf (c .registers) (c .lines) .mode) (c .receiver) b e)
+    ∙ ap (λ (s : Status). withStatus (heardWithin c b) s) (noticed-same (c .status) (liveOf c))
+  where
+    live : Bool → Live
+    live h = record { abort = c .receiver .broken; underrun = c .sender .core .latch; cts = c .lines .cts; hunt = h; dcd = c .lines .dcd }
+
+pub receive-within : (c : Channel) (b : Bool) → hearsWithin c b ≡ true → receiveTick c b ≡ heardWithin c b
+unfolding hearsWithin receiveTick
+receive-within c b w =
+    let g = receivingOf (c .registers) (c .lines) in
+    let rest = both-right (inSdlc (g .mode)) (g .on && hearing.within (c .receiver) b) w in
+    let facts = inside (c .receiver) b (both-right (g .on) (hearing.within (c .receiver) b) rest) in
+    ap (λ (h : Heard). settled c (heardBy c h))
+    (hear-within g (c .receiver) b (in-sdlc (g .mode) (both-left (inSdlc (g .mode)) (g .on && hearing.within (c .receiver) b) w))
+    (both-left (g .on) (hearing.within (c .receiver) b) rest) facts)
+    ∙ heard-on c b (facts .found)

@@ -1,0 +1,22 @@
+-- `channel::Channel::hears_within` meets its contract: each return by the facts on its way. Assumes nothing.
+use Rattle.channel.proofs.Branch.{tests}
+use Rattle.channel.specs.Within.{hearsWithin}
+use borrow.Author.Needs.{needs}
+use Rattle.channel.proofs.Channel.hears_within.Statement.{statement}
+use Rattle.channel.proofs.Channel.hears_within.Tie as tie
+
+receiving-requires : tie.Need-receiving-requires
+receiving-requires c κs = search needs
+
+in-sdlc-requires : tie.Need-in-sdlc-requires
+in-sdlc-requires c κs = search needs
+
+within-requires : tie.Need-within-requires
+within-requires c κs = search needs
+
+returns : tie.Need-returns
+unfolding hearsWithin
+returns c = simp (tests, c .before .within .ensures, ← c .before .before .in-sdlc .ensures, ← c .before .before .before .receiving .ensures)
+
+pub hears-within-spec : {M : Type 1} → statement M
+hears-within-spec = tie.close (tie.spec receiving-requires in-sdlc-requires within-requires returns)
