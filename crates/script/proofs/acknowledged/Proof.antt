@@ -7,15 +7,12 @@ use Rattle.script.proofs.acknowledged.Lts as lts
 use Rattle.chip.proofs.Acked.number.Reads as number-reads
 use Rattle.chip.proofs.Acked.value.Reads as value-reads
 
--- src/lib.rt:54:17
 number-requires : tie.Need-number-requires
 number-requires c κs = search needs
 
--- src/lib.rt:55:16
 value-requires : tie.Need-value-requires
 value-requires c κs = search needs
 
--- src/lib.rt:48:1
 returns : tie.Need-returns
 returns c = simp (tests, c .value .ensures, ← c .before .number .ensures)
 

@@ -7,15 +7,12 @@ use Rattle.script.proofs.answered.Lts as lts
 use Rattle.channel.proofs.Answer.number.Reads as number-reads
 use Rattle.channel.proofs.Answer.value.Reads as value-reads
 
--- src/lib.rt:42:17
 number-requires : tie.Need-number-requires
 number-requires c κs = search needs
 
--- src/lib.rt:43:16
 value-requires : tie.Need-value-requires
 value-requires c κs = search needs
 
--- src/lib.rt:36:1
 returns : tie.Need-returns
 returns c = simp (tests, c .value .ensures, ← c .before .number .ensures)
 

@@ -6,21 +6,17 @@ use Rattle.script.proofs.digit_of.Tie as tie
 use Rattle.script.proofs.digit_of.Reads as reads
 use Rattle.script.proofs.digit_of.Lts as lts
 
--- src/lib.rt:86:9
 returns : tie.Need-returns
 unfolding digitOf
 returns c = simp (tests, c .if1 .taken)
 
--- src/lib.rt:89:16
 add-result : tie.Need-add-result
 add-result c = search needs
 
--- src/lib.rt:89:9
 returns-2 : tie.Need-returns-2
 unfolding digitOf
 returns-2 c = simp (tests, c .if2 .taken, c .before .if1 .left)
 
--- src/lib.rt:82:1
 returns-3 : tie.Need-returns-3
 unfolding digitOf
 returns-3 c = simp (tests, c .if2 .left, c .before .if1 .left)

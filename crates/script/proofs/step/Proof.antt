@@ -19,132 +19,102 @@ use Rattle.script.proofs.acknowledged.Reads as acknowledged-reads
 use Rattle.script.proofs.answered.Reads as answered-reads
 use Rattle.script.proofs.plain.Reads as plain-reads
 
--- src/lib.rt:65:20
 reset-requires : tie.Need-reset-requires
 reset-requires c κs = search needs
 
--- src/lib.rt:65:14
 plain-requires : tie.Need-plain-requires
 plain-requires c κs = search needs
 
--- src/lib.rt:66:23
 control-write-requires : tie.Need-control-write-requires
 control-write-requires c κs = search needs
 
--- src/lib.rt:66:14
 answered-requires : tie.Need-answered-requires
 answered-requires c κs = search needs
 
--- src/lib.rt:67:23
 control-read-requires : tie.Need-control-read-requires
 control-read-requires c κs = search needs
 
--- src/lib.rt:67:14
 answered-requires-2 : tie.Need-answered-requires-2
 answered-requires-2 c κs = search needs
 
--- src/lib.rt:68:23
 data-write-requires : tie.Need-data-write-requires
 data-write-requires c κs = search needs
 
--- src/lib.rt:68:14
 answered-requires-3 : tie.Need-answered-requires-3
 answered-requires-3 c κs = search needs
 
--- src/lib.rt:69:23
 data-read-requires : tie.Need-data-read-requires
 data-read-requires c κs = search needs
 
--- src/lib.rt:69:14
 answered-requires-4 : tie.Need-answered-requires-4
 answered-requires-4 c κs = search needs
 
--- src/lib.rt:70:23
 transmit-requires : tie.Need-transmit-requires
 transmit-requires c κs = search needs
 
--- src/lib.rt:70:14
 answered-requires-5 : tie.Need-answered-requires-5
 answered-requires-5 c κs = search needs
 
--- src/lib.rt:71:23
 receive-requires : tie.Need-receive-requires
 receive-requires c κs = search needs
 
--- src/lib.rt:71:14
 answered-requires-6 : tie.Need-answered-requires-6
 answered-requires-6 c κs = search needs
 
--- src/lib.rt:72:23
 set-lines-requires : tie.Need-set-lines-requires
 set-lines-requires c κs = search needs
 
--- src/lib.rt:72:14
 answered-requires-7 : tie.Need-answered-requires-7
 answered-requires-7 c κs = search needs
 
--- src/lib.rt:73:27
 acknowledge-requires : tie.Need-acknowledge-requires
 acknowledge-requires c κs = search needs
 
--- src/lib.rt:73:14
 acknowledged-requires : tie.Need-acknowledged-requires
 acknowledged-requires c κs = search needs
 
--- src/lib.rt:74:20
 reti-requires : tie.Need-reti-requires
 reti-requires c κs = search needs
 
--- src/lib.rt:74:14
 plain-requires-2 : tie.Need-plain-requires-2
 plain-requires-2 c κs = search needs
 
--- src/lib.rt:61:1
 returns : tie.Need-returns
 unfolding step
 returns c = simp (tests, c .before .before .match .keys1, ← c .before .reset .ensures) (c .plain .ensures)
 
--- src/lib.rt:61:1
 returns-2 : tie.Need-returns-2
 unfolding step
 returns-2 c = simp (tests, c .before .before .match .keys2, ← c .before .control-write .ensures) (c .answered .ensures)
 
--- src/lib.rt:61:1
 returns-3 : tie.Need-returns-3
 unfolding step
 returns-3 c = simp (tests, c .before .before .match .keys3, ← c .before .control-read .ensures) (c .answered2 .ensures)
 
--- src/lib.rt:61:1
 returns-4 : tie.Need-returns-4
 unfolding step
 returns-4 c = simp (tests, c .before .before .match .keys4, ← c .before .data-write .ensures) (c .answered3 .ensures)
 
--- src/lib.rt:61:1
 returns-5 : tie.Need-returns-5
 unfolding step
 returns-5 c = simp (tests, c .before .before .match .keys5, ← c .before .data-read .ensures) (c .answered4 .ensures)
 
--- src/lib.rt:61:1
 returns-6 : tie.Need-returns-6
 unfolding step
 returns-6 c = simp (tests, c .before .before .match .keys6, ← c .before .transmit .ensures) (c .answered5 .ensures)
 
--- src/lib.rt:61:1
 returns-7 : tie.Need-returns-7
 unfolding step
 returns-7 c = simp (tests, c .before .before .match .keys7, ← c .before .receive .ensures) (c .answered6 .ensures)
 
--- src/lib.rt:61:1
 returns-8 : tie.Need-returns-8
 unfolding step
 returns-8 c = simp (tests, c .before .before .match .keys8, ← c .before .set-lines .ensures) (c .answered7 .ensures)
 
--- src/lib.rt:61:1
 returns-9 : tie.Need-returns-9
 unfolding step
 returns-9 c = simp (tests, c .before .before .match .keys9, ← c .before .acknowledge .ensures) (c .acknowledged .ensures)
 
--- src/lib.rt:61:1
 returns-10 : tie.Need-returns-10
 unfolding step
 returns-10 c = simp (tests, c .before .before .match .rest .1, c .before .before .match .rest .0 .1, c .before .before .match .rest .0 .0 .1, c .before .before .match .rest .0 .0 .0 .1, c .before .before .match .rest .0 .0 .0 .0 .1, c .before .before .match .rest .0 .0 .0 .0 .0 .1, c .before .before .match .rest .0 .0 .0 .0 .0 .0 .1, c .before .before .match .rest .0 .0 .0 .0 .0 .0 .0 .1, c .before .before .match .rest .0 .0 .0 .0 .0 .0 .0 .0 .1, ← c .before .reti .ensures) (c .plain2 .ensures)

@@ -8,15 +8,12 @@ use Rattle.channel.proofs.Channel.command_step.Lts as lts
 use Rattle.channel.proofs.Channel.commanded.Reads as commanded-reads
 use Rattle.channel.proofs.Channel.settled.Reads as settled-reads
 
--- src/lib.rt:326:9
 commanded-requires : tie.Need-commanded-requires
 commanded-requires c κs = search needs
 
--- src/lib.rt:326:9
 settled-requires : tie.Need-settled-requires
 settled-requires c κs = search needs
 
--- src/lib.rt:323:5
 returns : tie.Need-returns
 unfolding commandStep
 returns c = simp (tests, ← c .before .commanded .ensures) (c .settled .ensures)

@@ -11,52 +11,41 @@ use Rattle.queue.proofs.Queue.error_reset.Reads as error-reset-reads
 use Rattle.sender.proofs.Sender.send_abort.Reads as send-abort-reads
 use Rattle.settings.proofs.Registers.sending.Reads as sending-reads
 
--- src/lib.rt:273:41
 sending-requires : tie.Need-sending-requires
 sending-requires c κs = search needs
 
--- src/lib.rt:273:17
 send-abort-requires : tie.Need-send-abort-requires
 send-abort-requires c κs = search needs
 
--- src/lib.rt:278:37
 live-requires : tie.Need-live-requires
 live-requires c κs = search needs
 
--- src/lib.rt:278:17
 afresh-requires : tie.Need-afresh-requires
 afresh-requires c κs = search needs
 
--- src/lib.rt:291:17
 error-reset-requires : tie.Need-error-reset-requires
 error-reset-requires c κs = search needs
 
--- src/lib.rt:264:5
 returns : tie.Need-returns
 unfolding commanded
 returns c = simp (tests, c .send-abort .ensures, c .before .before .before .before .before .match .keys1, ← c .before .sending .ensures)
 
--- src/lib.rt:264:5
 returns-2 : tie.Need-returns-2
 unfolding commanded
 returns-2 c = simp (tests, c .afresh .ensures, c .before .before .before .match .keys2, ← c .before .live .ensures)
 
--- src/lib.rt:264:5
 returns-3 : tie.Need-returns-3
 unfolding commanded
 returns-3 c = simp (tests, c .match .keys3)
 
--- src/lib.rt:264:5
 returns-4 : tie.Need-returns-4
 unfolding commanded
 returns-4 c = simp (tests, c .match .keys4)
 
--- src/lib.rt:264:5
 returns-5 : tie.Need-returns-5
 unfolding commanded
 returns-5 c = simp (tests, c .error-reset .ensures, c .before .before .match .keys5)
 
--- src/lib.rt:264:5
 returns-6 : tie.Need-returns-6
 unfolding commanded
 returns-6 c = simp (tests, c .match .rest .1, c .match .rest .0 .1, c .match .rest .0 .0 .1, c .match .rest .0 .0 .0 .1, c .match .rest .0 .0 .0 .0 .1)

@@ -6,11 +6,9 @@ use Rattle.channel.proofs.Channel.control_read.Reads as reads
 use Rattle.channel.proofs.Channel.control_read.Lts as lts
 use Rattle.channel.proofs.Channel.read_register.Reads as read-register-reads
 
--- src/lib.rt:507:13
 read-register-requires : tie.Need-read-register-requires
 read-register-requires c κs = search needs
 
--- src/lib.rt:504:5
 returns : tie.Need-returns
 returns c = simp (tests, c .read-register .ensures)
 

@@ -10,33 +10,26 @@ use Rattle.channel.proofs.Channel.settled.Reads as settled-reads
 use Rattle.channel.proofs.Channel.write_wr0.Reads as write-wr0-reads
 use Rattle.settings.proofs.not_built.Reads as not-built-reads
 
--- src/lib.rt:443:26
 write-wr0-requires : tie.Need-write-wr0-requires
 write-wr0-requires c κs = search needs
 
--- src/lib.rt:441:13
 returns : tie.Need-returns
 unfolding controlWritten
 returns c = simp (tests, c .write-wr0 .ensures, c .before .if1 .taken)
 
--- src/lib.rt:446:23
 not-built-requires : tie.Need-not-built-requires
 not-built-requires c κs = search needs
 
--- src/lib.rt:447:13
 returns-2 : tie.Need-returns-2
 unfolding controlWritten
 returns-2 c = simp (tests, c .if2 .taken, c .before .before .if1 .left, ← c .before .not-built .ensures)
 
--- src/lib.rt:452:21
 set-register-requires : tie.Need-set-register-requires
 set-register-requires c κs = search needs
 
--- src/lib.rt:452:13
 settled-requires : tie.Need-settled-requires
 settled-requires c κs = search needs
 
--- src/lib.rt:436:5
 returns-3 : tie.Need-returns-3
 unfolding controlWritten
 returns-3 c = simp (tests, c .settled .ensures, c .before .before .if2 .left, c .before .before .before .before .if1 .left, ← c .before .set-register .ensures, ← c .before .before .before .not-built .ensures)

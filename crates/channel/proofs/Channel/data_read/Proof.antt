@@ -9,24 +9,19 @@ use Rattle.queue.proofs.Queue.oldest.Reads as oldest-reads
 use Rattle.queue.proofs.Queue.take.Reads as take-reads
 use Rattle.queue.proofs.Queue.waits.Reads as waits-reads
 
--- src/lib.rt:532:12
 waits-requires : tie.Need-waits-requires
 waits-requires c κs = search needs
 
--- src/lib.rt:533:17
 oldest-requires : tie.Need-oldest-requires
 oldest-requires c κs = search needs
 
--- src/lib.rt:535:13
 take-requires : tie.Need-take-requires
 take-requires c κs = search needs
 
--- src/lib.rt:537:13
 returns : tie.Need-returns
 unfolding dataRead
 returns c = simp (tests, c .take .ensures, c .before .before .if1 .taken, ← c .before .oldest .ensures, ← c .before .before .before .waits .ensures)
 
--- src/lib.rt:528:5
 returns-2 : tie.Need-returns-2
 unfolding dataRead
 returns-2 c = simp (tests, c .if1 .left, ← c .before .waits .ensures)

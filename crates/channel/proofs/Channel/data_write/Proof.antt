@@ -6,11 +6,9 @@ use Rattle.channel.proofs.Channel.data_write.Reads as reads
 use Rattle.channel.proofs.Channel.data_write.Lts as lts
 use Rattle.sender.proofs.Sender.write.Reads as write-reads
 
--- src/lib.rt:522:9
 write-requires : tie.Need-write-requires
 write-requires c κs = search needs
 
--- src/lib.rt:517:5
 returns : tie.Need-returns
 returns c = simp (tests, c .write .ensures)
 

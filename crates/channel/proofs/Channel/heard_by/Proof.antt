@@ -6,11 +6,9 @@ use Rattle.channel.proofs.Channel.heard_by.Reads as reads
 use Rattle.channel.proofs.Channel.heard_by.Lts as lts
 use Rattle.channel.proofs.Channel.queued.Reads as queued-reads
 
--- src/lib.rt:589:13
 queued-requires : tie.Need-queued-requires
 queued-requires c κs = search needs
 
--- src/lib.rt:585:5
 returns : tie.Need-returns
 returns c = simp (tests, c .queued .ensures)
 

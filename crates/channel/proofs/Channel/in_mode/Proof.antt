@@ -8,19 +8,15 @@ use Rattle.common.proofs.in_sdlc.Reads as in-sdlc-reads
 use Rattle.receiver.proofs.Receiver.mode_changed.Reads as mode-changed-reads
 use Rattle.sender.proofs.Sender.idle.Reads as idle-reads
 
--- src/lib.rt:390:9
 idle-requires : tie.Need-idle-requires
 idle-requires c κs = search needs
 
--- src/lib.rt:391:37
 in-sdlc-requires : tie.Need-in-sdlc-requires
 in-sdlc-requires c κs = search needs
 
--- src/lib.rt:391:9
 mode-changed-requires : tie.Need-mode-changed-requires
 mode-changed-requires c κs = search needs
 
--- src/lib.rt:384:5
 returns : tie.Need-returns
 returns c = simp (tests, c .mode-changed .ensures, ← c .before .in-sdlc .ensures, ← c .before .before .idle .ensures)
 

@@ -8,15 +8,12 @@ use Rattle.channel.proofs.Channel.live.Lts as lts
 use Rattle.receiver.proofs.Receiver.hunting.Reads as hunting-reads
 use Rattle.settings.proofs.Registers.receiving.Reads as receiving-reads
 
--- src/lib.rt:243:13
 receiving-requires : tie.Need-receiving-requires
 receiving-requires c κs = search needs
 
--- src/lib.rt:248:19
 hunting-requires : tie.Need-hunting-requires
 hunting-requires c κs = search needs
 
--- src/lib.rt:235:5
 returns : tie.Need-returns
 unfolding liveOf
 returns c = simp (tests, c .hunting .ensures, ← c .before .receiving .ensures)

@@ -7,11 +7,9 @@ use Rattle.channel.proofs.Channel.pending.Reads as reads
 use Rattle.channel.proofs.Channel.pending.Lts as lts
 use Rattle.channel.proofs.Channel.receive_pending.Reads as receive-pending-reads
 
--- src/lib.rt:642:22
 receive-pending-requires : tie.Need-receive-pending-requires
 receive-pending-requires c κs = search needs
 
--- src/lib.rt:636:5
 returns : tie.Need-returns
 unfolding pendingIn
 returns c = simp (tests, ← c .before .before .receive-pending .ensures)

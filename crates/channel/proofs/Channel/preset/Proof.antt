@@ -9,34 +9,27 @@ use Rattle.receiver.proofs.Receiver.preset_check.Reads as Receiver-preset-check
 use Rattle.sender.proofs.Sender.clear_latch.Reads as clear-latch-reads
 use Rattle.sender.proofs.Sender.preset_check.Reads as Sender-preset-check-reads
 
--- src/lib.rt:306:17
 preset-check-requires : tie.Need-preset-check-requires
 preset-check-requires c κs = search needs
 
--- src/lib.rt:311:17
 preset-check-requires-2 : tie.Need-preset-check-requires-2
 preset-check-requires-2 c κs = search needs
 
--- src/lib.rt:316:17
 clear-latch-requires : tie.Need-clear-latch-requires
 clear-latch-requires c κs = search needs
 
--- src/lib.rt:299:5
 returns : tie.Need-returns
 unfolding preset
 returns c = simp (tests, c .preset-check .ensures, c .before .before .match .keys1)
 
--- src/lib.rt:299:5
 returns-2 : tie.Need-returns-2
 unfolding preset
 returns-2 c = simp (tests, c .preset-check2 .ensures, c .before .before .match .keys2)
 
--- src/lib.rt:299:5
 returns-3 : tie.Need-returns-3
 unfolding preset
 returns-3 c = simp (tests, c .clear-latch .ensures, c .before .before .match .keys3)
 
--- src/lib.rt:299:5
 returns-4 : tie.Need-returns-4
 unfolding preset
 returns-4 c = simp (tests, c .match .rest .1, c .match .rest .0 .1, c .match .rest .0 .0 .1)

@@ -8,15 +8,12 @@ use Rattle.channel.proofs.Channel.preset_step.Lts as lts
 use Rattle.channel.proofs.Channel.preset.Reads as preset-reads
 use Rattle.channel.proofs.Channel.settled.Reads as settled-reads
 
--- src/lib.rt:332:9
 preset-requires : tie.Need-preset-requires
 preset-requires c κs = search needs
 
--- src/lib.rt:332:9
 settled-requires : tie.Need-settled-requires
 settled-requires c κs = search needs
 
--- src/lib.rt:329:5
 returns : tie.Need-returns
 unfolding presetStep
 returns c = simp (tests, ← c .before .preset .ensures) (c .settled .ensures)

@@ -6,15 +6,12 @@ use Rattle.channel.proofs.Channel.queued.Reads as reads
 use Rattle.channel.proofs.Channel.queued.Lts as lts
 use Rattle.queue.proofs.Queue.push.Reads as push-reads
 
--- src/lib.rt:580:13
 push-requires : tie.Need-push-requires
 push-requires c κs = search needs
 
--- src/lib.rt:580:13
 returns : tie.Need-returns
 returns c = simp (tests, c .before .before .if1 .taken) (c .push .ensures)
 
--- src/lib.rt:574:5
 returns-2 : tie.Need-returns-2
 returns-2 c = search needs
 

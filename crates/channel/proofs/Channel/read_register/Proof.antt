@@ -8,30 +8,24 @@ use Rattle.channel.proofs.Channel.read_register.Lts as lts
 use Rattle.channel.proofs.Channel.rr0.Reads as rr0-reads
 use Rattle.channel.proofs.Channel.rr1.Reads as rr1-reads
 
--- src/lib.rt:496:18
 rr0-requires : tie.Need-rr0-requires
 rr0-requires c κs = search needs
 
--- src/lib.rt:497:18
 rr1-requires : tie.Need-rr1-requires
 rr1-requires c κs = search needs
 
--- src/lib.rt:491:5
 returns : tie.Need-returns
 unfolding readRegister
 returns c = simp (tests, c .before .match .keys1) (c .rr0 .ensures)
 
--- src/lib.rt:491:5
 returns-2 : tie.Need-returns-2
 unfolding readRegister
 returns-2 c = simp (tests, c .before .match .keys2) (c .rr1 .ensures)
 
--- src/lib.rt:491:5
 returns-3 : tie.Need-returns-3
 unfolding readRegister
 returns-3 c = simp (tests, c .match .keys3)
 
--- src/lib.rt:491:5
 returns-4 : tie.Need-returns-4
 unfolding readRegister
 returns-4 c = simp (tests, c .match .rest .1, c .match .rest .0 .1, c .match .rest .0 .0 .1)

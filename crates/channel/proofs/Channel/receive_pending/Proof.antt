@@ -8,15 +8,12 @@ use Rattle.channel.proofs.Channel.receive_pending.Lts as lts
 use Rattle.channel.proofs.Channel.special_waits.Reads as special-waits-reads
 use Rattle.queue.proofs.Queue.waits.Reads as waits-reads
 
--- src/lib.rt:632:22
 waits-requires : tie.Need-waits-requires
 waits-requires c κs = search needs
 
--- src/lib.rt:632:61
 special-waits-requires : tie.Need-special-waits-requires
 special-waits-requires c κs = search needs
 
--- src/lib.rt:626:5
 returns : tie.Need-returns
 unfolding receivePending
 returns c = simp (tests, c .special-waits .ensures, ← c .before .before .waits .ensures)

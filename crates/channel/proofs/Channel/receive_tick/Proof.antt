@@ -10,23 +10,18 @@ use Rattle.channel.proofs.Channel.settled.Reads as settled-reads
 use Rattle.receiver.proofs.Receiver.hear.Reads as hear-reads
 use Rattle.settings.proofs.Registers.receiving.Reads as receiving-reads
 
--- src/lib.rt:603:24
 receiving-requires : tie.Need-receiving-requires
 receiving-requires c κs = search needs
 
--- src/lib.rt:603:13
 hear-requires : tie.Need-hear-requires
 hear-requires c κs = search needs
 
--- src/lib.rt:604:9
 heard-by-requires : tie.Need-heard-by-requires
 heard-by-requires c κs = search needs
 
--- src/lib.rt:604:9
 settled-requires : tie.Need-settled-requires
 settled-requires c κs = search needs
 
--- src/lib.rt:597:5
 returns : tie.Need-returns
 unfolding receiveTick
 returns c = simp (tests, ← c .before .heard-by .ensures, ← c .before .before .hear .ensures, ← c .before .before .before .receiving .ensures) (c .settled .ensures)

@@ -10,27 +10,21 @@ use Rattle.queue.proofs.Queue.empty.Reads as empty-reads
 use Rattle.receiver.proofs.Receiver.reset.Reads as Receiver-reset-reads
 use Rattle.sender.proofs.Sender.reset.Reads as Sender-reset-reads
 
--- src/lib.rt:219:21
 reset-requires : tie.Need-reset-requires
 reset-requires c κs = search needs
 
--- src/lib.rt:220:23
 reset-requires-2 : tie.Need-reset-requires-2
 reset-requires-2 c κs = search needs
 
--- src/lib.rt:221:20
 empty-requires : tie.Need-empty-requires
 empty-requires c κs = search needs
 
--- src/lib.rt:224:24
 quiet-requires : tie.Need-quiet-requires
 quiet-requires c κs = search needs
 
--- src/lib.rt:230:22
 none-requires : tie.Need-none-requires
 none-requires c κs = search needs
 
--- src/lib.rt:206:5
 returns : tie.Need-returns
 returns c = simp (tests, c .none .ensures, ← c .before .quiet .ensures, ← c .before .before .empty .ensures, ← c .before .before .before .reset2 .ensures, ← c .before .before .before .before .reset .ensures)
 

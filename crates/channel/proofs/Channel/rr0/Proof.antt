@@ -11,83 +11,63 @@ use Rattle.common.proofs.placed.Reads as placed-reads
 use Rattle.queue.proofs.Queue.waits.Reads as waits-reads
 use Rattle.sender.proofs.Sender.buffer_ready.Reads as buffer-ready-reads
 
--- src/lib.rt:467:30
 live-requires : tie.Need-live-requires
 live-requires c κs = search needs
 
--- src/lib.rt:467:13
 shown-bits-requires : tie.Need-shown-bits-requires
 shown-bits-requires c κs = search needs
 
--- src/lib.rt:468:25
 waits-requires : tie.Need-waits-requires
 waits-requires c κs = search needs
 
--- src/lib.rt:468:13
 placed-requires : tie.Need-placed-requires
 placed-requires c κs = search needs
 
--- src/lib.rt:469:13
 placed-requires-2 : tie.Need-placed-requires-2
 placed-requires-2 c κs = search needs
 
--- src/lib.rt:470:25
 buffer-ready-requires : tie.Need-buffer-ready-requires
 buffer-ready-requires c κs = search needs
 
--- src/lib.rt:470:13
 placed-requires-3 : tie.Need-placed-requires-3
 placed-requires-3 c κs = search needs
 
--- src/lib.rt:471:13
 placed-requires-4 : tie.Need-placed-requires-4
 placed-requires-4 c κs = search needs
 
--- src/lib.rt:472:13
 placed-requires-5 : tie.Need-placed-requires-5
 placed-requires-5 c κs = search needs
 
--- src/lib.rt:473:13
 placed-requires-6 : tie.Need-placed-requires-6
 placed-requires-6 c κs = search needs
 
--- src/lib.rt:474:13
 placed-requires-7 : tie.Need-placed-requires-7
 placed-requires-7 c κs = search needs
 
--- src/lib.rt:475:13
 placed-requires-8 : tie.Need-placed-requires-8
 placed-requires-8 c κs = search needs
 
--- src/lib.rt:476:9
 add-result : tie.Need-add-result
 add-result c = search needs
 
--- src/lib.rt:476:9
 add-result-2 : tie.Need-add-result-2
 add-result-2 c = search needs
 
--- src/lib.rt:476:9
 add-result-3 : tie.Need-add-result-3
 add-result-3 c = search needs
 
--- src/lib.rt:476:9
 add-result-4 : tie.Need-add-result-4
 add-result-4 c = search needs
 
--- src/lib.rt:476:9
 add-result-5 : tie.Need-add-result-5
 add-result-5 c = search needs
 
--- src/lib.rt:476:9
 add-result-6 : tie.Need-add-result-6
 add-result-6 c = search needs
 
--- src/lib.rt:476:9
 add-result-7 : tie.Need-add-result-7
 add-result-7 c = search needs
 
--- src/lib.rt:461:5
 returns : tie.Need-returns
 unfolding rr0
 returns c = simp (c .placed8 .ensures .0, c .before .placed7 .ensures .0, c .before .before .placed6 .ensures .0, c .before .before .before .placed5 .ensures .0, c .before .before .before .before .placed4 .ensures .0, c .before .before .before .before .before .placed3 .ensures .0, c .before .before .before .before .before .before .buffer-ready .ensures, c .before .before .before .before .before .before .before .placed2 .ensures .0, c .before .before .before .before .before .before .before .before .placed .ensures .0, c .before .before .before .before .before .before .before .before .before .waits .ensures, c .before .before .before .before .before .before .before .before .before .before .shown-bits .ensures, c .before .before .before .before .before .before .before .before .before .before .before .live .ensures)

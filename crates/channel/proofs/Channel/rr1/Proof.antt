@@ -9,19 +9,15 @@ use Rattle.queue.proofs.Queue.rr1.Reads as rr1-reads
 use Rattle.sender.proofs.Sender.all_sent.Reads as all-sent-reads
 use Rattle.settings.proofs.Registers.sending.Reads as sending-reads
 
--- src/lib.rt:487:26
 sending-requires : tie.Need-sending-requires
 sending-requires c κs = search needs
 
--- src/lib.rt:487:15
 all-sent-requires : tie.Need-all-sent-requires
 all-sent-requires c κs = search needs
 
--- src/lib.rt:487:9
 rr1-requires : tie.Need-rr1-requires
 rr1-requires c κs = search needs
 
--- src/lib.rt:480:5
 returns : tie.Need-returns
 unfolding rr1Now
 returns c = simp (tests, ← c .before .all-sent .ensures, ← c .before .before .sending .ensures) (c .rr1 .ensures)

@@ -7,11 +7,9 @@ use Rattle.channel.proofs.Channel.set_lines.Reads as reads
 use Rattle.channel.proofs.Channel.set_lines.Lts as lts
 use Rattle.channel.proofs.Channel.settled.Reads as settled-reads
 
--- src/lib.rt:614:9
 settled-requires : tie.Need-settled-requires
 settled-requires c κs = search needs
 
--- src/lib.rt:608:5
 returns : tie.Need-returns
 unfolding linesSet
 returns c = c .settled .ensures

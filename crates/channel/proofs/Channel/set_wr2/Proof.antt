@@ -5,19 +5,15 @@ use Rattle.channel.proofs.Channel.set_wr2.Tie as tie
 use Rattle.channel.proofs.Channel.set_wr2.Reads as reads
 use Rattle.channel.proofs.Channel.set_wr2.Lts as lts
 
--- src/lib.rt:360:24
 enum-told : tie.Need-enum-told
 enum-told c = search needs
 
--- src/lib.rt:362:21
 enum-told-2 : tie.Need-enum-told-2
 enum-told-2 c = search needs
 
--- src/lib.rt:356:5
 returns : tie.Need-returns
 returns c = search needs
 
--- src/lib.rt:356:5
 returns-2 : tie.Need-returns-2
 returns-2 c = simp (tests, c .before .enum-told2 .given .1)
 

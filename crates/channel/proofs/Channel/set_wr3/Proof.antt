@@ -8,23 +8,18 @@ use Rattle.common.proofs.in_sdlc.Reads as in-sdlc-reads
 use Rattle.receiver.proofs.Receiver.enter_hunt.Reads as enter-hunt-reads
 use Rattle.settings.proofs.mode_of.Reads as mode-of-reads
 
--- src/lib.rt:375:40
 mode-of-requires : tie.Need-mode-of-requires
 mode-of-requires c κs = search needs
 
--- src/lib.rt:375:32
 in-sdlc-requires : tie.Need-in-sdlc-requires
 in-sdlc-requires c κs = search needs
 
--- src/lib.rt:377:13
 enter-hunt-requires : tie.Need-enter-hunt-requires
 enter-hunt-requires c κs = search needs
 
--- src/lib.rt:378:13
 returns : tie.Need-returns
 returns c = simp (tests, c .enter-hunt .ensures, c .before .before .if1 .taken, ← c .before .before .before .in-sdlc .ensures, ← c .before .before .before .before .mode-of .ensures)
 
--- src/lib.rt:369:5
 returns-2 : tie.Need-returns-2
 returns-2 c = simp (tests, c .if1 .left, ← c .before .in-sdlc .ensures, ← c .before .before .mode-of .ensures)
 

@@ -9,28 +9,22 @@ use Rattle.channel.proofs.Channel.in_mode.Reads as in-mode-reads
 use Rattle.channel.proofs.control.same_mode.Reads as same-mode-reads
 use Rattle.settings.proofs.mode_of.Reads as mode-of-reads
 
--- src/lib.rt:400:13
 mode-of-requires : tie.Need-mode-of-requires
 mode-of-requires c κs = search needs
 
--- src/lib.rt:401:30
 mode-of-requires-2 : tie.Need-mode-of-requires-2
 mode-of-requires-2 c κs = search needs
 
--- src/lib.rt:401:13
 same-mode-requires : tie.Need-same-mode-requires
 same-mode-requires c κs = search needs
 
--- src/lib.rt:405:13
 returns : tie.Need-returns
 unfolding setWr4
 returns c = simp (tests, c .if1 .taken, ← c .before .before .same-mode .ensures, ← c .before .before .before .mode-of2 .ensures, ← c .before .before .before .before .mode-of .ensures)
 
--- src/lib.rt:407:9
 in-mode-requires : tie.Need-in-mode-requires
 in-mode-requires c κs = search needs
 
--- src/lib.rt:396:5
 returns-2 : tie.Need-returns-2
 unfolding setWr4
 returns-2 c = simp (tests, c .before .if1 .left, ← c .before .before .before .same-mode .ensures, ← c .before .before .before .before .mode-of2 .ensures, ← c .before .before .before .before .before .mode-of .ensures) (c .in-mode .ensures)

@@ -8,19 +8,15 @@ use Rattle.channel.proofs.Channel.settled.Lts as lts
 use Rattle.channel.proofs.Channel.live.Reads as live-reads
 use Rattle.channel.proofs.Status.noticed.Reads as noticed-reads
 
--- src/lib.rt:259:30
 live-requires : tie.Need-live-requires
 live-requires c κs = search needs
 
--- src/lib.rt:259:42
 live-requires-2 : tie.Need-live-requires-2
 live-requires-2 c κs = search needs
 
--- src/lib.rt:259:9
 noticed-requires : tie.Need-noticed-requires
 noticed-requires c κs = search needs
 
--- src/lib.rt:254:5
 returns : tie.Need-returns
 unfolding settled
 returns c = simp (tests, c .noticed .ensures, ← c .before .live2 .ensures, ← c .before .before .live .ensures)

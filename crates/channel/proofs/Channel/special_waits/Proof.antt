@@ -7,11 +7,9 @@ use Rattle.channel.proofs.Channel.special_waits.Reads as reads
 use Rattle.channel.proofs.Channel.special_waits.Lts as lts
 use Rattle.queue.proofs.Queue.special.Reads as special-reads
 
--- src/lib.rt:623:9
 special-requires : tie.Need-special-requires
 special-requires c κs = search needs
 
--- src/lib.rt:618:5
 returns : tie.Need-returns
 unfolding specialWaits
 returns c = c .special .ensures

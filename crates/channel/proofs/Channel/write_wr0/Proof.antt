@@ -9,24 +9,19 @@ use Rattle.channel.proofs.Channel.command_step.Reads as command-step-re
 use Rattle.channel.proofs.Channel.preset_step.Reads as preset-step-reads
 use Rattle.channel.proofs.Channel.reset.Reads as reset-reads
 
--- src/lib.rt:340:13
 reset-requires : tie.Need-reset-requires
 reset-requires c κs = search needs
 
--- src/lib.rt:340:13
 returns : tie.Need-returns
 unfolding writeWr0
 returns c = simp (tests, c .before .if1 .taken) (c .reset .ensures)
 
--- src/lib.rt:342:21
 command-step-requires : tie.Need-command-step-requires
 command-step-requires c κs = search needs
 
--- src/lib.rt:342:13
 preset-step-requires : tie.Need-preset-step-requires
 preset-step-requires c κs = search needs
 
--- src/lib.rt:336:5
 returns-2 : tie.Need-returns-2
 unfolding writeWr0
 returns-2 c = simp (tests, c .preset-step .ensures, c .before .before .if1 .left, ← c .before .command-step .ensures)

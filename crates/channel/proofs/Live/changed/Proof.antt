@@ -6,7 +6,6 @@ use Rattle.channel.proofs.Live.changed.Tie as tie
 use Rattle.channel.proofs.Live.changed.Reads as reads
 use Rattle.channel.proofs.Live.changed.Lts as lts
 
--- src/lib.rt:93:5
 returns : tie.Need-returns
 unfolding changed
 returns c = search (needs, tests)

@@ -7,16 +7,13 @@ use Rattle.channel.proofs.Status.afresh.Reads as reads
 use Rattle.channel.proofs.Status.afresh.Lts as lts
 use Rattle.channel.proofs.Live.changed.Reads as changed-reads
 
--- src/lib.rt:147:26
 changed-requires : tie.Need-changed-requires
 changed-requires c κs = search needs
 
--- src/lib.rt:146:13
 returns : tie.Need-returns
 unfolding afresh
 returns c = simp (tests, c .changed .ensures, c .before .before .if1 .taken)
 
--- src/lib.rt:141:5
 returns-2 : tie.Need-returns-2
 unfolding afresh
 returns-2 c = simp (tests, c .if1 .left)

@@ -7,21 +7,17 @@ use Rattle.channel.proofs.Status.noticed.Reads as reads
 use Rattle.channel.proofs.Status.noticed.Lts as lts
 use Rattle.channel.proofs.Live.changed.Reads as changed-reads
 
--- src/lib.rt:119:13
 returns : tie.Need-returns
 unfolding noticed
 returns c = simp (tests, c .if1 .taken)
 
--- src/lib.rt:121:12
 changed-requires : tie.Need-changed-requires
 changed-requires c κs = search needs
 
--- src/lib.rt:122:13
 returns-2 : tie.Need-returns-2
 unfolding noticed
 returns-2 c = simp (tests, c .if2 .taken, c .before .before .if1 .left, ← c .before .changed .ensures)
 
--- src/lib.rt:115:5
 returns-3 : tie.Need-returns-3
 unfolding noticed
 returns-3 c = simp (tests, c .if2 .left, c .before .before .if1 .left, ← c .before .changed .ensures)

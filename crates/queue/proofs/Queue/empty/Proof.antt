@@ -6,11 +6,9 @@ use Rattle.queue.proofs.Queue.empty.Reads as reads
 use Rattle.queue.proofs.Queue.empty.Lts as lts
 use Rattle.queue.proofs.Entry.none.Reads as none-reads
 
--- src/lib.rt:94:13
 none-requires : tie.Need-none-requires
 none-requires c κs = search needs
 
--- src/lib.rt:91:5
 returns : tie.Need-returns
 returns c = simp (tests, c .none .ensures)
 

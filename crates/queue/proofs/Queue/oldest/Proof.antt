@@ -7,20 +7,16 @@ use Rattle.queue.proofs.Queue.oldest.Reads as reads
 use Rattle.queue.proofs.Queue.oldest.Lts as lts
 use Rattle.queue.proofs.Entry.none.Reads as none-reads
 
--- src/lib.rt:172:13
 none-requires : tie.Need-none-requires
 none-requires c κs = search needs
 
--- src/lib.rt:172:13
 returns : tie.Need-returns
 unfolding oldest
 returns c = simp (tests, c .before .if1 .taken) (c .none .ensures)
 
--- src/lib.rt:174:9
 array-copy-out-result : tie.Need-array-copy-out-result
 array-copy-out-result c = search needs
 
--- src/lib.rt:166:5
 returns-2 : tie.Need-returns-2
 unfolding oldest
 returns-2 c = simp (tests, c .before .if1 .left)

@@ -10,57 +10,44 @@ use Rattle.queue.proofs.Queue.keeping.Reads as keeping-reads
 use Rattle.queue.proofs.Queue.latching.Reads as latching-reads
 use Rattle.queue.proofs.wide.Reads as wide-reads
 
--- src/lib.rt:134:13
 array-set-from-es : tie.Need-array-set-from-es
 array-set-from-es c = search needs
 
--- src/lib.rt:135:13
 latching-requires : tie.Need-latching-requires
 latching-requires c κs = search needs
 
--- src/lib.rt:135:13
 returns : tie.Need-returns
 unfolding pushed
 returns c = simp (tests, c .before .if1 .taken) (c .latching .ensures)
 
--- src/lib.rt:138:17
 wide-requires : tie.Need-wide-requires
 wide-requires c κs = search needs
 
--- src/lib.rt:139:13
 mul-es : tie.Need-mul-es
 mul-es c = search needs
 
--- src/lib.rt:139:13
 array-set-from-es-2 : tie.Need-array-set-from-es-2
 array-set-from-es-2 c = search needs
 
--- src/lib.rt:140:37
 add-keeping : tie.Need-add-keeping
 add-keeping c = search needs
 
--- src/lib.rt:140:13
 keeping-requires : tie.Need-keeping-requires
 keeping-requires c κs = search needs
 
--- src/lib.rt:140:13
 returns-2 : tie.Need-returns-2
 unfolding pushed
 returns-2 c = simp (tests, c .keeping .ensures, c .before .before .if2 .taken, c .before .before .before .if1 .left, ← c .before .wide .ensures)
 
--- src/lib.rt:142:13
 overran-requires : tie.Need-overran-requires
 overran-requires c κs = search needs
 
--- src/lib.rt:143:9
 array-set-from-es-3 : tie.Need-array-set-from-es-3
 array-set-from-es-3 c = search needs
 
--- src/lib.rt:144:9
 keeping-requires-2 : tie.Need-keeping-requires-2
 keeping-requires-2 c κs = search needs
 
--- src/lib.rt:128:5
 returns-3 : tie.Need-returns-3
 unfolding pushed
 returns-3 c = simp (tests, c .before .before .if2 .left, c .before .before .before .if1 .left, ← c .before .overran .ensures) (c .keeping2 .ensures)

@@ -4,55 +4,42 @@ use borrow.Author.Needs.{needs}
 use Rattle.queue.proofs.Queue.rr1.Statement.{statement}
 use Rattle.queue.proofs.Queue.rr1.Tie as tie
 
--- src/lib.rt:198:13
 oldest-requires : tie.Need-oldest-requires
 oldest-requires c κs = search needs
 
--- src/lib.rt:200:13
 placed-requires : tie.Need-placed-requires
 placed-requires c κs = search needs
 
--- src/lib.rt:201:13
 placed-requires-2 : tie.Need-placed-requires-2
 placed-requires-2 c κs = search needs
 
--- src/lib.rt:202:13
 placed-requires-3 : tie.Need-placed-requires-3
 placed-requires-3 c κs = search needs
 
--- src/lib.rt:203:13
 placed-requires-4 : tie.Need-placed-requires-4
 placed-requires-4 c κs = search needs
 
--- src/lib.rt:204:13
 placed-requires-5 : tie.Need-placed-requires-5
 placed-requires-5 c κs = search needs
 
--- src/lib.rt:205:13
 placed-requires-6 : tie.Need-placed-requires-6
 placed-requires-6 c κs = search needs
 
--- src/lib.rt:206:9
 add-result : tie.Need-add-result
 add-result c = search needs
 
--- src/lib.rt:206:9
 add-result-2 : tie.Need-add-result-2
 add-result-2 c = search needs
 
--- src/lib.rt:206:9
 add-result-3 : tie.Need-add-result-3
 add-result-3 c = search needs
 
--- src/lib.rt:206:9
 add-result-4 : tie.Need-add-result-4
 add-result-4 c = search needs
 
--- src/lib.rt:206:9
 add-result-5 : tie.Need-add-result-5
 add-result-5 c = search needs
 
--- src/lib.rt:195:5
 returns : tie.Need-returns
 unfolding rr1
 returns c =

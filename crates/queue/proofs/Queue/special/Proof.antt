@@ -7,11 +7,9 @@ use Rattle.queue.proofs.Queue.special.Reads as reads
 use Rattle.queue.proofs.Queue.special.Lts as lts
 use Rattle.queue.proofs.Queue.oldest.Reads as oldest-reads
 
--- src/lib.rt:213:13
 oldest-requires : tie.Need-oldest-requires
 oldest-requires c κs = search needs
 
--- src/lib.rt:210:5
 returns : tie.Need-returns
 unfolding special
 returns c = simp (tests, ← c .before .before .before .before .oldest .ensures)

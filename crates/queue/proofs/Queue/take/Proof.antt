@@ -9,41 +9,32 @@ use Rattle.queue.proofs.Entry.none.Reads as none-reads
 use Rattle.queue.proofs.Queue.keeping.Reads as keeping-reads
 use Rattle.queue.proofs.Queue.latching.Reads as latching-reads
 
--- src/lib.rt:154:13
 returns : tie.Need-returns
 unfolding taken
 returns c = simp (tests, c .if1 .taken)
 
--- src/lib.rt:156:17
 array-copy-out-a : tie.Need-array-copy-out-a
 array-copy-out-a c = search needs
 
--- src/lib.rt:157:17
 array-copy-out-b : tie.Need-array-copy-out-b
 array-copy-out-b c = search needs
 
--- src/lib.rt:158:13
 none-requires : tie.Need-none-requires
 none-requires c κs = search needs
 
--- src/lib.rt:160:13
 keeping-requires : tie.Need-keeping-requires
 keeping-requires c κs = search needs
 
--- src/lib.rt:160:13
 returns-2 : tie.Need-returns-2
 unfolding taken
 returns-2 c = simp (tests, c .keeping .ensures, c .before .if2 .taken, c .before .before .before .before .before .if1 .left, ← c .before .before .none .ensures)
 
--- src/lib.rt:162:34
 sub-latching : tie.Need-sub-latching
 sub-latching c = search needs
 
--- src/lib.rt:162:9
 latching-requires : tie.Need-latching-requires
 latching-requires c κs = search needs
 
--- src/lib.rt:148:5
 returns-3 : tie.Need-returns-3
 unfolding taken
 returns-3 c = simp (tests, c .latching .ensures, c .before .if2 .left, c .before .before .before .before .before .if1 .left, ← c .before .before .none .ensures)

@@ -7,23 +7,18 @@ use Rattle.receiver.proofs.Assembly.begun.Lts as lts
 use Rattle.receiver.proofs.bit.Reads as bit-reads
 use Rattle.receiver.proofs.asynchronous.size.Reads as size-reads
 
--- src/lib.rt:171:19
 size-requires : tie.Need-size-requires
 size-requires c κs = search needs
 
--- src/lib.rt:171:36
 bit-requires : tie.Need-bit-requires
 bit-requires c κs = search needs
 
--- src/lib.rt:171:19
 add-t4 : tie.Need-add-t4
 add-t4 c = search needs
 
--- src/lib.rt:171:19
 add-t5 : tie.Need-add-t5
 add-t5 c = search needs
 
--- src/lib.rt:167:5
 returns : tie.Need-returns
 returns c = simp (c .bit .ensures .0, c .before .size .ensures .0)
 

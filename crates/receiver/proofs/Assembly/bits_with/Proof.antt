@@ -6,12 +6,10 @@ use Rattle.receiver.proofs.Assembly.bits_with.Tie as tie
 use Rattle.receiver.proofs.Assembly.bits_with.Reads as reads
 use Rattle.receiver.proofs.Assembly.bits_with.Lts as lts
 
--- src/lib.rt:182:5
 returns : tie.Need-returns
 unfolding bitsWith
 returns c = simp (tests, c .if1 .taken)
 
--- src/lib.rt:182:5
 returns-2 : tie.Need-returns-2
 unfolding bitsWith
 returns-2 c = simp (tests, c .before .if1 .left)

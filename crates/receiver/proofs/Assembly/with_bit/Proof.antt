@@ -6,15 +6,12 @@ use Rattle.receiver.proofs.Assembly.with_bit.Reads as reads
 use Rattle.receiver.proofs.Assembly.with_bit.Lts as lts
 use Rattle.receiver.proofs.Assembly.bits_with.Reads as bits-with-reads
 
--- src/lib.rt:194:19
 bits-with-requires : tie.Need-bits-with-requires
 bits-with-requires c κs = search needs
 
--- src/lib.rt:195:21
 mul-t6 : tie.Need-mul-t6
 mul-t6 c = search needs
 
--- src/lib.rt:189:5
 returns : tie.Need-returns
 returns c = simp (tests, ← c .before .before .before .bits-with .ensures)
 

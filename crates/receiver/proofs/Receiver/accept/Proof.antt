@@ -13,61 +13,47 @@ use Rattle.receiver.proofs.Receiver.silent.Reads as silent-reads
 use Rattle.receiver.proofs.Receiving.wrong.Reads as wrong-reads
 use Rattle.receiver.proofs.sdlc.shift_in.Reads as shift-in-reads
 
--- src/lib.rt:329:13
 shift-in-requires : tie.Need-shift-in-requires
 shift-in-requires c κs = search needs
 
--- src/lib.rt:330:13
 check-step-requires : tie.Need-check-step-requires
 check-step-requires c κs = search needs
 
--- src/lib.rt:333:24
 add-t19 : tie.Need-add-t19
 add-t19 c = search needs
 
--- src/lib.rt:346:17
 following-requires : tie.Need-following-requires
 following-requires c κs = search needs
 
--- src/lib.rt:347:13
 silent-requires : tie.Need-silent-requires
 silent-requires c κs = search needs
 
--- src/lib.rt:347:13
 returns : tie.Need-returns
 unfolding accept
 returns c = simp (tests, c .before .before .before .if1 .taken, ← c .before .following .ensures, ← c .before .before .before .before .before .check-step .ensures, ← c .before .before .before .before .before .before .shift-in .ensures) (c .silent .ensures)
 
--- src/lib.rt:349:12
 wrong-requires : tie.Need-wrong-requires
 wrong-requires c κs = search needs
 
--- src/lib.rt:355:24
 none-requires : tie.Need-none-requires
 none-requires c κs = search needs
 
--- src/lib.rt:357:17
 following-requires-2 : tie.Need-following-requires-2
 following-requires-2 c κs = search needs
 
--- src/lib.rt:358:13
 silent-requires-2 : tie.Need-silent-requires-2
 silent-requires-2 c κs = search needs
 
--- src/lib.rt:358:13
 returns-2 : tie.Need-returns-2
 unfolding accept
 returns-2 c = simp (tests, c .before .before .before .if2 .taken, c .before .before .before .before .before .if1 .left, ← c .before .following2 .ensures, ← c .before .before .none .ensures, ← c .before .before .before .before .wrong .ensures, ← c .before .before .before .before .before .before .before .check-step .ensures, ← c .before .before .before .before .before .before .before .before .shift-in .ensures) (c .silent2 .ensures)
 
--- src/lib.rt:375:23
 following-requires-3 : tie.Need-following-requires-3
 following-requires-3 c κs = search needs
 
--- src/lib.rt:377:20
 received-requires : tie.Need-received-requires
 received-requires c κs = search needs
 
--- src/lib.rt:324:5
 returns-3 : tie.Need-returns-3
 unfolding accept
 returns-3 c = simp (tests, c .received .ensures, c .before .before .if2 .left, c .before .before .before .before .if1 .left, ← c .before .following3 .ensures, ← c .before .before .before .wrong .ensures, ← c .before .before .before .before .before .before .check-step .ensures, ← c .before .before .before .before .before .before .before .shift-in .ensures)

@@ -12,80 +12,62 @@ use Rattle.receiver.proofs.Receiver.released.Reads as released-reads
 use Rattle.receiver.proofs.Receiver.silent.Reads as silent-reads
 use Rattle.receiver.proofs.Receiver.stopped.Reads as stopped-reads
 
--- src/lib.rt:527:21
 released-requires : tie.Need-released-requires
 released-requires c κs = search needs
 
--- src/lib.rt:528:17
 silent-requires : tie.Need-silent-requires
 silent-requires c κs = search needs
 
--- src/lib.rt:528:17
 returns : tie.Need-returns
 unfolding asynchronous
 returns c = simp (tests, c .before .before .if2 .taken, c .before .before .before .if1 .taken, ← c .before .released .ensures) (c .silent .ensures)
 
--- src/lib.rt:530:13
 silent-requires-2 : tie.Need-silent-requires-2
 silent-requires-2 c κs = search needs
 
--- src/lib.rt:530:13
 returns-2 : tie.Need-returns-2
 unfolding asynchronous
 returns-2 c = simp (tests, c .before .if2 .left, c .before .before .if1 .taken) (c .silent2 .ensures)
 
--- src/lib.rt:534:17
 silent-requires-3 : tie.Need-silent-requires-3
 silent-requires-3 c κs = search needs
 
--- src/lib.rt:534:17
 returns-3 : tie.Need-returns-3
 unfolding asynchronous
 returns-3 c = simp (tests, c .before .if4 .taken, c .before .before .if3 .taken, c .before .before .before .if1 .left) (c .silent3 .ensures)
 
--- src/lib.rt:536:37
 begun-requires : tie.Need-begun-requires
 begun-requires c κs = search needs
 
--- src/lib.rt:536:17
 assembling-requires : tie.Need-assembling-requires
 assembling-requires c κs = search needs
 
--- src/lib.rt:537:13
 silent-requires-4 : tie.Need-silent-requires-4
 silent-requires-4 c κs = search needs
 
--- src/lib.rt:537:13
 returns-4 : tie.Need-returns-4
 unfolding asynchronous
 returns-4 c = simp (tests, c .silent4 .ensures, c .before .before .before .if4 .left, c .before .before .before .before .if3 .taken, c .before .before .before .before .before .if1 .left, c .before .assembling .ensures, c .before .before .begun .ensures)
 
--- src/lib.rt:540:13
 stopped-requires : tie.Need-stopped-requires
 stopped-requires c κs = search needs
 
--- src/lib.rt:540:13
 returns-5 : tie.Need-returns-5
 unfolding asynchronous
 returns-5 c = simp (tests, c .before .if5 .taken, c .before .before .if3 .left, c .before .before .before .if1 .left) (c .stopped .ensures)
 
--- src/lib.rt:542:44
 sub-with-bit : tie.Need-sub-with-bit
 sub-with-bit c = search needs
 
--- src/lib.rt:542:33
 with-bit-requires : tie.Need-with-bit-requires
 with-bit-requires c κs = search needs
 
--- src/lib.rt:542:13
 assembling-requires-2 : tie.Need-assembling-requires-2
 assembling-requires-2 c κs = search needs
 
--- src/lib.rt:543:9
 silent-requires-5 : tie.Need-silent-requires-5
 silent-requires-5 c κs = search needs
 
--- src/lib.rt:520:5
 returns-6 : tie.Need-returns-6
 unfolding asynchronous
 returns-6 c = simp (tests, c .silent5 .ensures, c .before .before .before .if5 .left, c .before .before .before .before .if3 .left, c .before .before .before .before .before .if1 .left, c .before .assembling2 .ensures, c .before .before .with-bit .ensures)

@@ -11,76 +11,59 @@ use Rattle.receiver.proofs.Receiver.one.Reads as one-reads
 use Rattle.receiver.proofs.Receiver.silent.Reads as silent-reads
 use Rattle.receiver.proofs.Receiver.zero_bit.Reads as zero-bit-reads
 
--- src/lib.rt:552:29
 enum-told : tie.Need-enum-told
 enum-told c = search needs
 
--- src/lib.rt:552:29
 silent-requires : tie.Need-silent-requires
 silent-requires c κs = search needs
 
--- src/lib.rt:554:20
 enum-told-2 : tie.Need-enum-told-2
 enum-told-2 c = search needs
 
--- src/lib.rt:555:21
 asynchronous-requires : tie.Need-asynchronous-requires
 asynchronous-requires c κs = search needs
 
--- src/lib.rt:555:21
 returns : tie.Need-returns
 unfolding hear
 returns c = simp (tests, c .before .if1 .taken, c .before .before .enum-told2 .given .1) (c .asynchronous .ensures)
 
--- src/lib.rt:557:21
 dropped-requires : tie.Need-dropped-requires
 dropped-requires c κs = search needs
 
--- src/lib.rt:558:17
 silent-requires-2 : tie.Need-silent-requires-2
 silent-requires-2 c κs = search needs
 
--- src/lib.rt:561:20
 enum-told-3 : tie.Need-enum-told-3
 enum-told-3 c = search needs
 
--- src/lib.rt:563:25
 one-requires : tie.Need-one-requires
 one-requires c κs = search needs
 
--- src/lib.rt:563:25
 returns-2 : tie.Need-returns-2
 unfolding hear
 returns-2 c = simp (tests, c .before .if3 .taken, c .before .before .if2 .taken, c .before .before .before .enum-told3 .given .1) (c .one .ensures)
 
--- src/lib.rt:565:21
 zero-bit-requires : tie.Need-zero-bit-requires
 zero-bit-requires c κs = search needs
 
--- src/lib.rt:565:21
 returns-3 : tie.Need-returns-3
 unfolding hear
 returns-3 c = simp (tests, c .before .if3 .left, c .before .before .if2 .taken, c .before .before .before .enum-told3 .given .1) (c .zero-bit .ensures)
 
--- src/lib.rt:567:21
 dropped-requires-2 : tie.Need-dropped-requires-2
 dropped-requires-2 c κs = search needs
 
--- src/lib.rt:568:17
 silent-requires-3 : tie.Need-silent-requires-3
 silent-requires-3 c κs = search needs
 
--- src/lib.rt:547:5
 returns-4 : tie.Need-returns-4
 unfolding hear
 returns-4 c = simp (tests, c .before .enum-told .given .1) (c .silent .ensures)
 
--- src/lib.rt:547:5
 returns-5 : tie.Need-returns-5
 unfolding hear
 returns-5 c = simp (tests, c .before .before .if1 .left, c .before .before .before .enum-told2 .given .1, ← c .before .dropped .ensures) (c .silent2 .ensures)
 
--- src/lib.rt:547:5
 returns-6 : tie.Need-returns-6
 unfolding hear
 returns-6 c = simp (tests, c .before .before .if2 .left, c .before .before .before .enum-told3 .given .1, ← c .before .dropped2 .ensures) (c .silent3 .ensures)

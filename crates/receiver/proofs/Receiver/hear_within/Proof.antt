@@ -12,43 +12,33 @@ use Rattle.receiver.proofs.sdlc.shift_in.Reads as shift-in-reads
 use Rattle.receiver.proofs.within.count_after.Reads as count-after-reads
 use Rattle.receiver.proofs.within.ones_after.Reads as ones-after-reads
 
--- src/within.rt:66:20
 count-after-requires : tie.Need-count-after-requires
 count-after-requires c κs = search needs
 
--- src/within.rt:67:19
 shift-in-requires : tie.Need-shift-in-requires
 shift-in-requires c κs = search needs
 
--- src/within.rt:70:20
 check-step-requires : tie.Need-check-step-requires
 check-step-requires c κs = search needs
 
--- src/within.rt:75:19
 ones-after-requires : tie.Need-ones-after-requires
 ones-after-requires c κs = search needs
 
--- src/within.rt:76:27
 mul-t12 : tie.Need-mul-t12
 mul-t12 c = search needs
 
--- src/within.rt:76:20
 add-t13 : tie.Need-add-t13
 add-t13 c = search needs
 
--- src/within.rt:76:40
 bit-requires : tie.Need-bit-requires
 bit-requires c κs = search needs
 
--- src/within.rt:76:20
 add-t15 : tie.Need-add-t15
 add-t15 c = search needs
 
--- src/within.rt:79:9
 following-requires : tie.Need-following-requires
 following-requires c κs = search needs
 
--- src/within.rt:58:5
 returns : tie.Need-returns
 unfolding movedOn
 returns c =

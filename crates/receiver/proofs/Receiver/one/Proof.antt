@@ -11,66 +11,51 @@ use Rattle.receiver.proofs.Receiver.push.Reads as push-reads
 use Rattle.receiver.proofs.Receiver.silent.Reads as silent-reads
 use Rattle.receiver.proofs.sdlc.counted.Reads as counted-reads
 
--- src/lib.rt:414:23
 counted-requires : tie.Need-counted-requires
 counted-requires c κs = search needs
 
--- src/lib.rt:418:17
 following-requires : tie.Need-following-requires
 following-requires c κs = search needs
 
--- src/lib.rt:419:13
 silent-requires : tie.Need-silent-requires
 silent-requires c κs = search needs
 
--- src/lib.rt:419:13
 returns : tie.Need-returns
 unfolding one
 returns c = simp (tests, c .before .before .before .if1 .taken, ← c .before .following .ensures, ← c .before .before .counted .ensures) (c .silent .ensures)
 
--- src/lib.rt:426:27
 add-t15 : tie.Need-add-t15
 add-t15 c = search needs
 
--- src/lib.rt:430:21
 following-requires-2 : tie.Need-following-requires-2
 following-requires-2 c κs = search needs
 
--- src/lib.rt:431:17
 silent-requires-2 : tie.Need-silent-requires-2
 silent-requires-2 c κs = search needs
 
--- src/lib.rt:431:17
 returns-2 : tie.Need-returns-2
 unfolding one
 returns-2 c = simp (tests, c .before .before .if3 .taken, c .before .before .before .if2 .taken, c .before .before .before .before .if1 .left, ← c .before .following2 .ensures) (c .silent2 .ensures)
 
--- src/lib.rt:433:33
 add-push : tie.Need-add-push
 add-push c = search needs
 
--- src/lib.rt:433:13
 push-requires : tie.Need-push-requires
 push-requires c κs = search needs
 
--- src/lib.rt:433:13
 returns-3 : tie.Need-returns-3
 unfolding one
 returns-3 c = simp (tests, c .before .if3 .left, c .before .before .if2 .taken, c .before .before .before .if1 .left) (c .push .ensures)
 
--- src/lib.rt:440:20
 none-requires : tie.Need-none-requires
 none-requires c κs = search needs
 
--- src/lib.rt:442:13
 following-requires-3 : tie.Need-following-requires-3
 following-requires-3 c κs = search needs
 
--- src/lib.rt:443:9
 silent-requires-3 : tie.Need-silent-requires-3
 silent-requires-3 c κs = search needs
 
--- src/lib.rt:404:5
 returns-4 : tie.Need-returns-4
 unfolding one
 returns-4 c = simp (tests, c .before .before .before .if2 .left, c .before .before .before .before .if1 .left, ← c .before .following3 .ensures, ← c .before .before .none .ensures) (c .silent3 .ensures)

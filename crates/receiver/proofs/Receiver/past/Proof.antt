@@ -7,15 +7,12 @@ use Rattle.receiver.proofs.Receiver.past.Lts as lts
 use Rattle.receiver.proofs.Chars.none.Reads as none-reads
 use Rattle.receiver.proofs.Receiver.following.Reads as following-reads
 
--- src/lib.rt:318:20
 none-requires : tie.Need-none-requires
 none-requires c κs = search needs
 
--- src/lib.rt:320:9
 following-requires : tie.Need-following-requires
 following-requires c κs = search needs
 
--- src/lib.rt:310:5
 returns : tie.Need-returns
 returns c = simp (tests, ← c .before .none .ensures) (c .following .ensures)
 

@@ -10,48 +10,37 @@ use Rattle.receiver.proofs.Receiver.following.Reads as following-reads
 use Rattle.receiver.proofs.Receiver.silent.Reads as silent-reads
 use Rattle.receiver.proofs.bit.Reads as bit-reads
 
--- src/lib.rt:388:13
 bit-requires : tie.Need-bit-requires
 bit-requires c κs = search needs
 
--- src/lib.rt:394:24
 mul-t13 : tie.Need-mul-t13
 mul-t13 c = search needs
 
--- src/lib.rt:394:24
 add-t14 : tie.Need-add-t14
 add-t14 c = search needs
 
--- src/lib.rt:397:17
 following-requires : tie.Need-following-requires
 following-requires c κs = search needs
 
--- src/lib.rt:398:13
 silent-requires : tie.Need-silent-requires
 silent-requires c κs = search needs
 
--- src/lib.rt:398:13
 returns : tie.Need-returns
 unfolding push
 returns c = simp (tests, c .before .before .if1 .taken, ← c .before .following .ensures, ← c .before .before .before .bit .ensures .0) (c .silent .ensures)
 
--- src/lib.rt:400:45
 mul-accept : tie.Need-mul-accept
 mul-accept c = search needs
 
--- src/lib.rt:400:38
 add-accept : tie.Need-add-accept
 add-accept c = search needs
 
--- src/lib.rt:400:38
 add-accept-2 : tie.Need-add-accept-2
 add-accept-2 c = search needs
 
--- src/lib.rt:400:9
 accept-requires : tie.Need-accept-requires
 accept-requires c κs = search needs
 
--- src/lib.rt:382:5
 returns-2 : tie.Need-returns-2
 unfolding push
 returns-2 c = simp (tests, c .before .if1 .left, ← c .before .before .bit .ensures .0) (c .accept .ensures)

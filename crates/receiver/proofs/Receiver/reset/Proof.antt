@@ -7,15 +7,12 @@ use Rattle.receiver.proofs.Receiver.reset.Lts as lts
 use Rattle.receiver.proofs.Assembly.none.Reads as Assembly-none-reads
 use Rattle.receiver.proofs.Chars.none.Reads as Chars-none-reads
 
--- src/lib.rt:221:20
 none-requires : tie.Need-none-requires
 none-requires c κs = search needs
 
--- src/lib.rt:225:24
 none-requires-2 : tie.Need-none-requires-2
 none-requires-2 c κs = search needs
 
--- src/lib.rt:213:5
 returns : tie.Need-returns
 returns c = simp (tests, c .none2 .ensures, ← c .before .none .ensures)
 

@@ -6,11 +6,9 @@ use Rattle.receiver.proofs.Receiver.silent.Reads as reads
 use Rattle.receiver.proofs.Receiver.silent.Lts as lts
 use Rattle.queue.proofs.Entry.none.Reads as none-reads
 
--- src/lib.rt:305:20
 none-requires : tie.Need-none-requires
 none-requires c κs = search needs
 
--- src/lib.rt:299:5
 returns : tie.Need-returns
 returns c = simp (tests, c .none .ensures)
 

@@ -7,15 +7,12 @@ use Rattle.receiver.proofs.Receiver.stopped.Lts as lts
 use Rattle.receiver.proofs.Assembly.finished.Reads as finished-reads
 use Rattle.receiver.proofs.Assembly.none.Reads as none-reads
 
--- src/lib.rt:508:24
 none-requires : tie.Need-none-requires
 none-requires c κs = search needs
 
--- src/lib.rt:515:20
 finished-requires : tie.Need-finished-requires
 finished-requires c κs = search needs
 
--- src/lib.rt:501:5
 returns : tie.Need-returns
 returns c = simp (tests, c .finished .ensures, ← c .before .before .before .none .ensures)
 

@@ -11,50 +11,39 @@ use Rattle.receiver.proofs.Receiver.past.Reads as past-reads
 use Rattle.receiver.proofs.Receiver.push.Reads as push-reads
 use Rattle.receiver.proofs.Receiver.silent.Reads as silent-reads
 
--- src/lib.rt:456:27
 past-requires : tie.Need-past-requires
 past-requires c κs = search needs
 
--- src/lib.rt:458:24
 closing-requires : tie.Need-closing-requires
 closing-requires c κs = search needs
 
--- src/lib.rt:455:13
 returns : tie.Need-returns
 unfolding zeroBit
 returns c = simp (tests, c .closing .ensures, c .before .before .before .if1 .taken, ← c .before .before .past .ensures)
 
--- src/lib.rt:464:17
 following-requires : tie.Need-following-requires
 following-requires c κs = search needs
 
--- src/lib.rt:465:13
 silent-requires : tie.Need-silent-requires
 silent-requires c κs = search needs
 
--- src/lib.rt:465:13
 returns-2 : tie.Need-returns-2
 unfolding zeroBit
 returns-2 c = simp (tests, c .before .before .if2 .taken, c .before .before .before .if1 .left, ← c .before .following .ensures) (c .silent .ensures)
 
--- src/lib.rt:475:17
 following-requires-2 : tie.Need-following-requires-2
 following-requires-2 c κs = search needs
 
--- src/lib.rt:476:13
 silent-requires-2 : tie.Need-silent-requires-2
 silent-requires-2 c κs = search needs
 
--- src/lib.rt:476:13
 returns-3 : tie.Need-returns-3
 unfolding zeroBit
 returns-3 c = simp (tests, c .before .before .if3 .taken, c .before .before .before .if2 .left, c .before .before .before .before .if1 .left, ← c .before .following2 .ensures) (c .silent2 .ensures)
 
--- src/lib.rt:478:9
 push-requires : tie.Need-push-requires
 push-requires c κs = search needs
 
--- src/lib.rt:447:5
 returns-4 : tie.Need-returns-4
 unfolding zeroBit
 returns-4 c = simp (tests, c .before .if3 .left, c .before .before .if2 .left, c .before .before .before .if1 .left) (c .push .ensures)

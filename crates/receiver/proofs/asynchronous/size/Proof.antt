@@ -8,22 +8,18 @@ use Rattle.receiver.proofs.asynchronous.size.Tie as tie
 use Rattle.receiver.proofs.asynchronous.size.Reads as reads
 use Rattle.receiver.proofs.asynchronous.size.Lts as lts
 
--- src/lib.rt:107:1
 returns : tie.Need-returns
 unfolding size
 returns c = search (needs, tests)
 
--- src/lib.rt:107:1
 returns-2 : tie.Need-returns-2
 unfolding size
 returns-2 c = rw (c .match .keys2) (refl, omega arith)
 
--- src/lib.rt:107:1
 returns-3 : tie.Need-returns-3
 unfolding size
 returns-3 c = rw (c .match .keys3) (refl, omega arith)
 
--- src/lib.rt:107:1
 returns-4 : tie.Need-returns-4
 unfolding size
 returns-4 c = search (needs, tests)

@@ -5,15 +5,12 @@ use Rattle.receiver.proofs.sdlc.counted.Tie as tie
 use Rattle.receiver.proofs.sdlc.counted.Reads as reads
 use Rattle.receiver.proofs.sdlc.counted.Lts as lts
 
--- src/lib.rt:96:23
 add-result : tie.Need-add-result
 add-result c = search needs
 
--- src/lib.rt:93:1
 returns : tie.Need-returns
 returns c = simp (tests, c .if1 .taken)
 
--- src/lib.rt:93:1
 returns-2 : tie.Need-returns-2
 returns-2 c = simp (tests, c .if1 .left)
 

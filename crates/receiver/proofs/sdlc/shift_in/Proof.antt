@@ -6,15 +6,12 @@ use Rattle.receiver.proofs.sdlc.shift_in.Tie as tie
 use Rattle.receiver.proofs.sdlc.shift_in.Reads as reads
 use Rattle.receiver.proofs.sdlc.shift_in.Lts as lts
 
--- src/lib.rt:103:12
 add-result : tie.Need-add-result
 add-result c = search needs
 
--- src/lib.rt:100:1
 returns : tie.Need-returns
 returns c = simp (tests, c .if1 .taken)
 
--- src/lib.rt:100:1
 returns-2 : tie.Need-returns-2
 returns-2 c = rw (c .if1 .left) (omega arith)
 

@@ -5,15 +5,12 @@ use Rattle.receiver.proofs.within.count_after.Tie as tie
 use Rattle.receiver.proofs.within.count_after.Reads as reads
 use Rattle.receiver.proofs.within.count_after.Lts as lts
 
--- src/within.rt:40:16
 add-result : tie.Need-add-result
 add-result c = search needs
 
--- src/within.rt:40:9
 returns : tie.Need-returns
 returns c = simp (tests, c .if1 .taken)
 
--- src/within.rt:36:1
 returns-2 : tie.Need-returns-2
 returns-2 c = simp (tests, c .if1 .left)
 

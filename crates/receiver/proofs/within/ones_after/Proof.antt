@@ -6,15 +6,12 @@ use Rattle.receiver.proofs.within.ones_after.Reads as reads
 use Rattle.receiver.proofs.within.ones_after.Lts as lts
 use Rattle.receiver.proofs.sdlc.counted.Reads as counted-reads
 
--- src/within.rt:30:9
 counted-requires : tie.Need-counted-requires
 counted-requires c κs = search needs
 
--- src/within.rt:30:9
 returns : tie.Need-returns
 returns c = simp (tests, c .before .if1 .taken) (c .counted .ensures)
 
--- src/within.rt:26:1
 returns-2 : tie.Need-returns-2
 returns-2 c = search needs
 

@@ -7,35 +7,28 @@ use Rattle.script.proofs.Player.begun.Reads as reads
 use Rattle.script.proofs.Player.begun.Lts as lts
 use Rattle.script.proofs.Player.played.Reads as played-reads
 
--- src/lib.rt:177:21
 played-requires : tie.Need-played-requires
 played-requires c κs = search needs
 
--- src/lib.rt:178:21
 played-requires-2 : tie.Need-played-requires-2
 played-requires-2 c κs = search needs
 
--- src/lib.rt:163:5
 returns : tie.Need-returns
 unfolding begun
 returns c = simp (tests, c .match .keys1)
 
--- src/lib.rt:163:5
 returns-2 : tie.Need-returns-2
 unfolding begun
 returns-2 c = simp (tests, c .match .keys2)
 
--- src/lib.rt:163:5
 returns-3 : tie.Need-returns-3
 unfolding begun
 returns-3 c = simp (tests, c .before .match .keys3) (c .played .ensures)
 
--- src/lib.rt:163:5
 returns-4 : tie.Need-returns-4
 unfolding begun
 returns-4 c = simp (tests, c .before .match .keys4) (c .played2 .ensures)
 
--- src/lib.rt:163:5
 returns-5 : tie.Need-returns-5
 unfolding begun
 returns-5 c = simp (tests, c .match .rest .1, c .match .rest .0 .1, c .match .rest .0 .0 .1, c .match .rest .0 .0 .0 .1)

@@ -7,33 +7,26 @@ use Rattle.script.proofs.Player.counted.Reads as reads
 use Rattle.script.proofs.Player.counted.Lts as lts
 use Rattle.script.proofs.Player.called.Reads as called-reads
 
--- src/lib.rt:194:13
 called-requires : tie.Need-called-requires
 called-requires c κs = search needs
 
--- src/lib.rt:194:13
 returns : tie.Need-returns
 unfolding counted
 returns c = simp (tests, c .before .if1 .taken) (c .called .ensures)
 
--- src/lib.rt:198:29
 mul-called : tie.Need-mul-called
 mul-called c = search needs
 
--- src/lib.rt:198:29
 add-called : tie.Need-add-called
 add-called c = search needs
 
--- src/lib.rt:198:13
 called-requires-2 : tie.Need-called-requires-2
 called-requires-2 c κs = search needs
 
--- src/lib.rt:198:13
 returns-2 : tie.Need-returns-2
 unfolding counted
 returns-2 c = simp (tests, c .before .before .if2 .taken, c .before .before .before .if1 .left) (c .called2 .ensures)
 
--- src/lib.rt:189:5
 returns-3 : tie.Need-returns-3
 unfolding counted
 returns-3 c = simp (tests, c .if2 .left, c .before .if1 .left)

@@ -9,34 +9,27 @@ use Rattle.script.proofs.Player.begun.Reads as begun-reads
 use Rattle.script.proofs.Player.counted.Reads as counted-reads
 use Rattle.script.proofs.digit_of.Reads as digit-of-reads
 
--- src/lib.rt:214:13
 returns : tie.Need-returns
 unfolding letter
 returns c = simp (tests, c .before .before .if1 .taken)
 
--- src/lib.rt:216:13
 digit-of-requires : tie.Need-digit-of-requires
 digit-of-requires c κs = search needs
 
--- src/lib.rt:218:13
 counted-requires : tie.Need-counted-requires
 counted-requires c κs = search needs
 
--- src/lib.rt:218:13
 returns-2 : tie.Need-returns-2
 unfolding letter
 returns-2 c = simp (tests, c .before .if2 .taken, c .before .before .before .if1 .left, ← c .before .before .digit-of .ensures) (c .counted .ensures)
 
--- src/lib.rt:221:13
 begun-requires : tie.Need-begun-requires
 begun-requires c κs = search needs
 
--- src/lib.rt:221:13
 returns-3 : tie.Need-returns-3
 unfolding letter
 returns-3 c = simp (tests, c .before .if3 .taken, c .before .before .if2 .left, c .before .before .before .before .if1 .left, ← c .before .before .before .digit-of .ensures) (c .begun .ensures)
 
--- src/lib.rt:206:5
 returns-4 : tie.Need-returns-4
 unfolding letter
 returns-4 c = simp (tests, c .if3 .left, c .before .if2 .left, c .before .before .before .if1 .left, ← c .before .before .digit-of .ensures)

@@ -7,11 +7,9 @@ use Rattle.script.proofs.Player.played.Reads as reads
 use Rattle.script.proofs.Player.played.Lts as lts
 use Rattle.script.proofs.step.Reads as step-reads
 
--- src/lib.rt:127:13
 step-requires : tie.Need-step-requires
 step-requires c κs = search needs
 
--- src/lib.rt:123:5
 returns : tie.Need-returns
 unfolding played
 returns c = simp (tests, ← c .before .before .before .before .step .ensures)

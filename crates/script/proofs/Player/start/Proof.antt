@@ -6,11 +6,9 @@ use Rattle.script.proofs.Player.start.Reads as reads
 use Rattle.script.proofs.Player.start.Lts as lts
 use Rattle.chip.proofs.Chip.reset.Reads as reset-reads
 
--- src/lib.rt:112:19
 reset-requires : tie.Need-reset-requires
 reset-requires c κs = search needs
 
--- src/lib.rt:108:5
 returns : tie.Need-returns
 returns c = simp (tests, c .reset .ensures)
 

@@ -7,34 +7,27 @@ use Rattle.script.proofs.Tally.with.Reads as reads
 use Rattle.script.proofs.Tally.with.Lts as lts
 use Rattle.script.proofs.say.Reads as say-reads
 
--- src/lib.rt:271:9
 say-requires : tie.Need-say-requires
 say-requires c κs = search needs
 
--- src/lib.rt:274:13
 returns : tie.Need-returns
 unfolding tallied
 returns c = simp (tests, c .if1 .taken, ← c .before .before .say .ensures)
 
--- src/lib.rt:277:13
 returns-2 : tie.Need-returns-2
 unfolding tallied
 returns-2 c = simp (tests, c .if2 .taken, c .before .before .if1 .left, ← c .before .before .before .before .say .ensures)
 
--- src/lib.rt:279:17
 add-t : tie.Need-add-t
 add-t c = search needs
 
--- src/lib.rt:281:23
 add-t-2 : tie.Need-add-t-2
 add-t-2 c = search needs
 
--- src/lib.rt:282:13
 returns-3 : tie.Need-returns-3
 unfolding tallied
 returns-3 c = simp (tests, c .before .if3 .taken, c .before .before .before .if2 .left, c .before .before .before .before .before .if1 .left, ← c .before .before .before .before .before .before .before .say .ensures)
 
--- src/lib.rt:268:5
 returns-4 : tie.Need-returns-4
 unfolding tallied
 returns-4 c = simp (tests, c .if3 .left, c .before .before .if2 .left, c .before .before .before .before .if1 .left, ← c .before .before .before .before .before .before .say .ensures)
