@@ -1,0 +1,3 @@
+pub mod Rule
+pub mod Join
+pub mod Laws
