@@ -10,8 +10,11 @@ use Rattle.line.specs.Bits.{lowBits}
 use Rattle.line.specs.Check.{checkStep, checkOver}
 
 -- k zero bytes are 8k zero bits
+abbrev pub byteBits : ℕ
+byteBits = 8
+
 unfoldable pub advanced : ℕ → ℕ → ℕ → ℕ
-advanced p r k = checkOver p r (replicate (8 * k) false)
+advanced p r k = checkOver p r (replicate (byteBits * k) false)
 
 -- a register is a sum of powers of x, each its own place: a times such a sum, its places told from x^0 on; times x is a step by 0
 unfoldable pub times : ℕ → ℕ → List Bool → ℕ

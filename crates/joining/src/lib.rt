@@ -6,11 +6,18 @@ use line::SDLC;
 ghost use mathlib.Core.Path.{_≡_};
 ghost use Rattle.line.specs.Bits.{textBits};
 ghost use Rattle.line.specs.Check.{checkOver};
-ghost use Rattle.joining.specs.Rule.{sdlcRule, synchronousRule, checkBy};
+ghost use Rattle.joining.specs.Rule.{polynomialBy, sdlcRule, synchronousRule, checkBy};
 ghost use Rattle.joining.specs.Join.{joinedBy, Joins};
 
-// x^16+x^15+x^2+1, which WR5 D2 = 1 chooses in the byte-synchronous modes.
+// x^16+x^15+x^2+1.
 pub const CRC_16: u16 = 0x8005;
+
+// The polynomial that WR5 D2 chooses.
+fn polynomial_by(d2: bool) -> u16
+    ensures { λ r. ⌜ r ≡ polynomialBy d2 ⌝ }
+{
+    if d2 { CRC_16 } else { SDLC }
+}
 
 // How a check is made: its polynomial, what the register starts from, and what is turned over in it when it is sent.
 pub struct CheckRule {
@@ -31,12 +38,12 @@ impl CheckRule {
         }
     }
 
-    // That of Monosync and Bisync, over the polynomial that WR5 D2 chooses: SDLC or CRC_16.
-    pub fn synchronous(polynomial: u16) -> CheckRule
-        ensures { λ r. ⌜ r ≡ synchronousRule polynomial ⌝ }
+    // That of Monosync and Bisync.
+    pub fn synchronous(d2: bool) -> CheckRule
+        ensures { λ r. ⌜ r ≡ synchronousRule d2 ⌝ }
     {
         CheckRule {
-            polynomial,
+            polynomial: polynomial_by(d2),
             preset: 0,
             complement: 0,
         }

@@ -77,7 +77,7 @@ advance-returns-2 t c =
     let a = c .before .before .before .before .before .args in
     let f = c .before .before .before .before .before .fits in
     simp (c .product2 .ensures, c .before .before .product .ensures, c .before .before .before .advance .ensures)
-    (advanced-even (a .p) (f .p .fits) (a .r) (a .k) (f .r .fits) (c .before .if2 .taken))
+    (advanced-even (a .p) (f .p .fits) (a .r) (a .k) (f .r .fits) (omega (arith, c .before .if2 .taken)))
 
 advance-check-byte-requires : (t : ℕ) → advance-lts.Need-check-byte-requires (
   advance-below t,
@@ -112,7 +112,7 @@ advance-returns-3 t c =
     let f = c .before .before .before .before .before .before .fits in
     simp
     (c .product3 .ensures, c .before .check-byte .ensures, c .before .before .before .product .ensures, c .before .before .before .before .advance .ensures)
-    (advanced-odd (a .p) (f .p .fits) (a .r) (a .k) (f .r .fits) (c .before .before .if2 .left))
+    (advanced-odd (a .p) (f .p .fits) (a .r) (a .k) (f .r .fits) (λ e. omega (arith, c .before .before .if2 .left)))
 
 pub +advance-spec : {M : Type 1} → statement M
 +advance-spec = close μ-advance λ t. advance-lts.spec (

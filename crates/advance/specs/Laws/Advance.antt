@@ -16,7 +16,7 @@ use Rattle.line.specs.Bits.{odd, lowBits, textBits}
 use Rattle.line.specs.Check.{shifted, top, checkStep, checkOver}
 use Rattle.line.specs.Laws.Xor.{xor-assoc}
 use Rattle.line.specs.Laws.Check.{check-join, check-linear, check-lt}
-use Rattle.advance.specs.Advance.{advanced, times, product}
+use Rattle.advance.specs.Advance.{byteBits, advanced, times, product}
 
 -- n zero bits
 abbrev over : ℕ → ℕ → ℕ → ℕ
@@ -104,11 +104,11 @@ module _ (p : ℕ) where
 
   advanced-product : (r k : ℕ) → r < 65536 → advanced p r k ≡ product p (advanced p 1 k) r
   unfolding advanced
-  advanced-product r k h = over-product (8 * k) r h
+  advanced-product r k h = over-product (byteBits * k) r h
 
   advanced-join : (r k m : ℕ) → advanced p r (k + m) ≡ advanced p (advanced p r k) m
   unfolding advanced
-  advanced-join r k m = ap (λ (n : ℕ). over p n r) (mul-add 8 k m) ∙ over-join (8 * k) (8 * m) r
+  advanced-join r k m = ap (λ (n : ℕ). over p n r) (mul-add byteBits k m) ∙ over-join (byteBits * k) (byteBits * m) r
 
   advanced-byte : (r : ℕ) → checkOver p r (lowBits 8 0) ≡ advanced p r 1
   unfolding advanced lowBits
@@ -116,7 +116,7 @@ module _ (p : ℕ) where
 
   advanced-lt : p < 65536 → (r k : ℕ) → r < 65536 → advanced p r k < 65536
   unfolding advanced
-  advanced-lt hp r k h = check-lt p hp r (replicate (8 * k) false) h
+  advanced-lt hp r k h = check-lt p hp r (replicate (byteBits * k) false) h
 
   square : p < 65536 → (h : ℕ) → product p (advanced p 1 h) (advanced p 1 h) ≡ advanced p 1 (h + h)
   square hp h = sym (advanced-product (advanced p 1 h) h (advanced-lt hp 1 h (omega arith))) ∙ sym (advanced-join 1 h h)
