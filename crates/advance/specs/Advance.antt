@@ -1,5 +1,5 @@
--- 02, P10: "the advance over k zero bytes", "with no preset and no complement", over any polynomial; and the multiplication by which it goes.
--- Assumes nothing.
+-- 02, P10: "the advance over k zero bytes", "with no preset and no complement", over any
+-- polynomial; and the multiplication by which it goes. Assumes nothing.
 use mathlib.Core.Bool.{Bool, false}
 use mathlib.Core.List.{List, [], _∷_}
 use Prim.Native.Nat.{ℕ, _*_}
@@ -16,7 +16,8 @@ byteBits = 8
 unfoldable pub advanced : ℕ → ℕ → ℕ → ℕ
 advanced p r k = checkOver p r (replicate (byteBits * k) false)
 
--- a register is a sum of powers of x, each its own place: a times such a sum, its places told from x^0 on; times x is a step by 0
+-- a register is a sum of powers of x, each at its place: a times such a sum, its places told from
+-- x^0 on; times x is a step by 0
 unfoldable pub times : ℕ → ℕ → List Bool → ℕ
 times p a [] = 0
 times p a (b ∷ bs) = bitXor (if b then a else 0) (times p (checkStep p a false) bs)

@@ -1,4 +1,5 @@
--- 02, P10: "Most notes start with the same printed heading. We'd like its check worked out once." Assumes nothing.
+-- 02, P10: "Most notes start with the same printed heading. We'd like its check worked out once."
+-- Assumes nothing.
 use mathlib.Core.List.{List}
 use Prim.Native.Nat.{ℕ, _+_}
 use lib.ListN.{length}
@@ -16,7 +17,8 @@ use Rattle.heading.specs.declared.NoteCheck.the-variants.{Check, Refused
 
 -- a note's check as it is sent; 01, refusal 6: "a note's length is 0 or above 2,048"
 unfoldable pub noteCheckOf : List ℕ → NoteCheck
-noteCheckOf note = if noteFits (length note) then Check (checkBy sdlcRule note) else Refused NoteLength
+noteCheckOf note =
+    if noteFits (length note) then Check (checkBy sdlcRule note) else Refused NoteLength
 
 -- the paper's number of that answer, 0 for a check
 abbrev pub noteCheckNumber : NoteCheck → ℕ
@@ -26,7 +28,8 @@ noteCheckNumber (Refused k) = numberOf k
 abbrev pub headingOf : List ℕ → Heading
 headingOf text = record { check = checkBy sdlcRule text; length = length text }
 
--- "the register after two joined parts is the register after the second, started from that after the first"
+-- "the register after two joined parts is the register after the second, started from that after
+-- the first"
 unfoldable pub withBody : Heading → List ℕ → NoteCheck
 withBody h body =
     if noteFits (h .length + length body)
@@ -36,4 +39,6 @@ withBody h body =
 -- the same from the check of a body of k bytes
 unfoldable pub withCheckedBody : Heading → ℕ → ℕ → NoteCheck
 withCheckedBody h body k =
-    if noteFits (h .length + k) then Check (joinedBy sdlcRule (h .check) body k) else Refused NoteLength
+    if noteFits (h .length + k)
+    then Check (joinedBy sdlcRule (h .check) body k)
+    else Refused NoteLength

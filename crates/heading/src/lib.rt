@@ -1,13 +1,13 @@
 // A printed heading, whose check is worked out once, and the checks of the notes that begin with it. Assumes nothing.
 use common::Refusal;
+use joining::CheckRule;
 use joining::check_of;
 use joining::check_text;
 use joining::joined;
-use joining::CheckRule;
-use line::note_fits;
 use line::LONGEST_NOTE;
 use line::ONES;
 use line::SDLC;
+use line::note_fits;
 ghost use mathlib.Core.Path.{_≡_};
 ghost use Prim.Native.Nat.{_+_};
 ghost use Rattle.line.specs.Line.{noteFits};

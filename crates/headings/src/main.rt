@@ -5,15 +5,15 @@
 use common::Refusal;
 use heading::Heading;
 use heading::NoteCheck;
-use joining::check_of;
 use joining::CheckRule;
+use joining::check_of;
+use notes::FIRST_NOTE;
+use notes::Head;
+use notes::LENGTH_BYTES;
+use notes::Scanned;
 use notes::head_at;
 use notes::note_at;
 use notes::scan;
-use notes::Head;
-use notes::Scanned;
-use notes::FIRST_NOTE;
-use notes::LENGTH_BYTES;
 
 fn print(text: &[u8]) {
     io::write_all(1, text);
@@ -84,7 +84,10 @@ fn print_whole(front: &[u8], back: &[u8]) {
 fn print_row(number: u64, front: &[u8], h: Heading, body: &[u8]) {
     io::print_decimal(1, number);
     print(b" ");
-    io::print_decimal(1, std::num::wrapping_add_u64(front.len() as u64, body.len() as u64));
+    io::print_decimal(
+        1,
+        std::num::wrapping_add_u64(front.len() as u64, body.len() as u64),
+    );
     print(b" ");
     print_answer(h.with_body(body));
     print(b" ");
@@ -116,7 +119,11 @@ fn print_list(list: &[u8]) {
     let mut number = 0;
     let first = head_at(list, FIRST_NOTE);
     if let Head::Note(k) = first {
-        number = print_rows(list, note_at(list, FIRST_NOTE), FIRST_NOTE + LENGTH_BYTES + k);
+        number = print_rows(
+            list,
+            note_at(list, FIRST_NOTE),
+            FIRST_NOTE + LENGTH_BYTES + k,
+        );
     }
     print(b"end ");
     io::print_decimal(1, number);

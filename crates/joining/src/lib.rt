@@ -1,8 +1,8 @@
 // The checks of SDLC and of the byte-synchronous modes by one rule, of a text and of texts that are put together. Assumes nothing.
 use advance::advance;
-use line::check_byte;
 use line::ONES;
 use line::SDLC;
+use line::check_byte;
 ghost use mathlib.Core.Path.{_≡_};
 ghost use Rattle.line.specs.Bits.{textBits};
 ghost use Rattle.line.specs.Check.{checkOver};

@@ -1,4 +1,5 @@
--- Laws of headings: with a body, by its text or by its check, a heading gives the check of the whole note. Assumes nothing.
+-- Laws of headings: with a body, by its text or by its check, a heading gives the check of the
+-- whole note. Assumes nothing.
 use mathlib.Core.Path.{_≡_, refl, sym, ap, ap₂, _∙_}
 use mathlib.Core.List.{List, _++_}
 use mathlib.Core.Bool.{false}
@@ -18,7 +19,13 @@ use Rattle.joining.specs.Rule.{sdlcRule, checkBy}
 use Rattle.joining.specs.Laws.Join.{xor-twice, checks-join}
 use Rattle.heading.specs.declared.NoteCheck.{NoteCheck}
 use Rattle.heading.specs.declared.NoteCheck.the-variants.{Check, Refused}
-use Rattle.heading.specs.Heading.{noteCheckOf, noteCheckNumber, headingOf, withBody, withCheckedBody}
+use Rattle.heading.specs.Heading.{
+  noteCheckOf,
+  noteCheckNumber,
+  headingOf,
+  withBody,
+  withCheckedBody,
+}
 
 pub long-unfit : (n : ℕ) → 2048 < n → noteFits n ≡ false
 long-unfit n h = rw (ne-eqb n 0 (λ e. omega arith), lt-leb n 2048 h)
@@ -31,20 +38,25 @@ frame-carries note = refl
 abbrev answer : ℕ → ℕ → NoteCheck
 answer n check = if noteFits n then Check check else Refused NoteLength
 
-pub with-body : (front body : List ℕ) → withBody (headingOf front) body ≡ noteCheckOf (front ++ body)
+pub with-body : (front body : List ℕ)
+    → withBody (headingOf front) body ≡ noteCheckOf (front ++ body)
 unfolding withBody noteCheckOf checkBy
 with-body front body =
     ap₂ answer (sym (length-append front body))
     (ap complement
-    (ap (λ (r : ℕ). checkOver sdlc r (noteBits body)) (xor-twice (checkOver sdlc ones (noteBits front)) ones)
+    (ap (λ (r : ℕ). checkOver sdlc r (noteBits body))
+    (xor-twice (checkOver sdlc ones (noteBits front)) ones)
     ∙ sym (check-join sdlc ones (noteBits front) (noteBits body))
     ∙ ap (checkOver sdlc ones) (sym (textBits-join 8 front body))))
 
 pub with-checked-body : (front body : List ℕ)
-    → withCheckedBody (headingOf front) (checkBy sdlcRule body) (length body) ≡ noteCheckOf (front ++ body)
+    → withCheckedBody (headingOf front) (checkBy sdlcRule body) (length body)
+    ≡ noteCheckOf (front ++ body)
 unfolding withCheckedBody noteCheckOf
-with-checked-body front body = ap₂ answer (sym (length-append front body)) (checks-join sdlcRule front body)
+with-checked-body front body =
+    ap₂ answer (sym (length-append front body)) (checks-join sdlcRule front body)
 
-pub note-check-refused : (note : List ℕ) → noteCheckNumber (noteCheckOf note) ≡ (if noteFits (length note) then 0 else 6)
+pub note-check-refused : (note : List ℕ)
+    → noteCheckNumber (noteCheckOf note) ≡ (if noteFits (length note) then 0 else 6)
 unfolding noteCheckOf
 note-check-refused note = bool-or (noteFits (length note)) (λ f. rw f) (λ f. rw f)
