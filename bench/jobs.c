@@ -1,9 +1,11 @@
 /* Rounds of one job, done by plain C (1), by the product (2), by both in turn (3), or left undone (0). Standard input: the job (t transmit ticks,
-   r receive ticks, T and R the same of both channels in turn, s a note sent, l a line written), who, the note's kind (0 mixed, 1 FF, 2 00) and
-   length, and the rounds. Prints for C and for the product a sum over all that came out and the best round's nanoseconds, and then how many
+   r receive ticks, T and R the same of both channels in turn, s a note sent, l a line written; a and z the check's advance over zero bytes by
+   halves and byte by byte, j a body's check joined to a heading's, w the check of both worked out whole), who, the note's kind (0 mixed, 1 FF,
+   2 00; of a and z the polynomial, 0 SDLC's, 1 the other) and length, and the rounds. Prints for C and for the product a sum over all that came out and the best round's nanoseconds, and then how many
    ticks or line bits a round has. */
 #include "station.h"
 #include "line.h"
+#include "joining.h"
 int printf(const char *, ...);
 int scanf(const char *, ...);
 struct timespec { long seconds, nanoseconds; };
@@ -13,8 +15,12 @@ extern size sio_transmit(const u8 *note, size n, u8 *out, size len, size ticks, 
 extern size sio_receive(const u8 *line, size n, u8 *out, size len, size ticks, _Bool both);
 extern size sio_send(const u8 *note, size n, size *told, size told_len, size rounds);
 extern size sio_write_line(const u8 *note, size note_len, u8 *out, size out_len, size at);
+extern size sio_advance(u16 p, u16 r, size k);
+extern size sio_check_text(u16 p, u16 r, const u8 *text, size n);
+extern size sio_check_of(const u8 *text, size n);
+extern size sio_joined(u16 heading, u16 body, size k);
 
-enum { LINE = 20000, TICKS = 65536, NOTES = 4 };
+enum { LINE = 20000, TICKS = 65536, NOTES = 4, CHECKS = 16 };
 
 /* RR0 and RR1 of both channels. */
 static size state(const struct chip *c) {
@@ -96,14 +102,35 @@ __attribute__((noinline)) static size c_send(const u8 *note, size n, size *told,
     return state(&c);
 }
 
-static u8 note[LONGEST], line[LINE], out[TICKS];
+static u8 note[LONGEST], line[LINE], out[TICKS], zeros[LONGEST];
+static u16 heading, body;                                                 /* the checks of the note's first bytes and of the rest */
 
-static size job(char what, int who, size n, size bits, size *told) {
+/* One check, from the heading's with r in it. */
+static u16 check_job(char what, int who, u16 p, size n, u16 r) {
+    switch (what) {
+    case 'a': return who == 1 ? advance(p, heading ^ r, n) : sio_advance(p, heading ^ r, n);
+    case 'z': return who == 1 ? check_text(p, heading ^ r, zeros, n) : sio_check_text(p, heading ^ r, zeros, n);
+    case 'j': return r ^ (who == 1 ? joined(heading, body ^ r, n - PRINTED) : sio_joined(heading, body ^ r, n - PRINTED));
+    default: return who == 1 ? ~check_text(POLYNOMIAL, PRESET, note, n) : sio_check_of(note, n);
+    }
+}
+
+static size check_jobs(char what, int who, int kind, size n) {
+    size sum = 0;
+    for (u16 r = 0; r < CHECKS; r++) {
+        __asm__ volatile("" ::: "memory");                                /* no check may stand for the next */
+        sum = sum * 31 + check_job(what, who, kind ? 0x8005 : POLYNOMIAL, n, r);
+    }
+    return sum;
+}
+
+static size job(char what, int who, int kind, size n, size bits, size *told) {
     _Bool both = what == 'T' || what == 'R';
     switch (what) {
     case 't': case 'T': return who == 1 ? c_transmit(note, n, out, TICKS, TICKS, both) : sio_transmit(note, n, out, TICKS, TICKS, both);
     case 'r': case 'R': return who == 1 ? c_receive(line, bits, out, TICKS, TICKS, both) : sio_receive(line, bits, out, TICKS, TICKS, both);
     case 's': return who == 1 ? c_send(note, n, told, NOTES) : sio_send(note, n, told, 2, NOTES);
+    case 'a': case 'z': case 'j': case 'w': return check_jobs(what, who, kind, n);
     default: return who == 1 ? write_line(note, n, out, LINE, 3) : sio_write_line(note, n, out, LINE, 3);
     }
 }
@@ -122,14 +149,20 @@ int main(void) {
     if (scanf("%c %d %d %lu %lu", &what, &who, &kind, &n, &rounds) != 5 || n == 0 || n > LONGEST) return 1;
     for (size i = 0; i < n; i++) note[i] = kind == 0 ? (u8)(i * 167 + 13) : kind == 1 ? 0xFF : 0;
     size zeros = write_line(note, n, line, LINE, 0), bits = zeros + 8 * (n + 2) + 8;      /* no closing flag: the next opening one closes the frame */
-    size units = what == 's' ? NOTES * (bits + 8) : what == 'l' ? bits + 8 : TICKS;
+    _Bool checks = what == 'a' || what == 'z' || what == 'j' || what == 'w';
+    size units = what == 's' ? NOTES * (bits + 8) : what == 'l' ? bits + 8 : checks ? CHECKS : TICKS;
+    if (checks && n < PRINTED) return 1;
     for (size r = 0; r < rounds; r++) {
+        if (checks) {
+            heading = ~check_text(POLYNOMIAL, PRESET, note, PRINTED);
+            body = ~check_text(POLYNOMIAL, PRESET, note + PRINTED, n - PRINTED);
+        }
         for (int k = 1; k <= 2; k++) {
             if (!(who & k)) continue;
             size told[2] = {0, 0};
             for (size i = 0; who == 3 && r == 0 && i < TICKS; i++) out[i] = 0;
             long start = now();
-            size state = job(what, k, n, bits, told);
+            size state = job(what, k, kind, n, bits, told);
             long took = now() - start;
             if (r == 0 || took < best[k]) best[k] = took;
             sum[k] = ((sum[k] * 31 + state) * 31 + told[0]) * 31 + told[1];

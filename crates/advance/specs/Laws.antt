@@ -1,0 +1,2 @@
+-- The laws of the advance. Assumes nothing.
+pub mod Advance

@@ -1,0 +1,2 @@
+-- The laws of headings. Assumes nothing.
+pub mod Heading
