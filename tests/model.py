@@ -1,9 +1,9 @@
 #!/usr/bin/env python3
-"""A second model of the chip, written from document 01 and its readings alone, without sight of the product's code.
+"""A second model of the chip, the line and the list, written from document 01 and its readings alone, without sight of the product's code.
 
     model.py < EVENTS        prints what the program `trace` must print for these events
 
-It is no part of the gate: `tests/compare` runs it beside the program, and crates/trace/stdout is its output.
+It is no part of the gate: `tests/compare` runs it beside the programs, and crates/trace/stdout is its output.
 """
 import sys
 
@@ -425,6 +425,69 @@ class Chip:
             refusal, value = r.args[0], 0
         a, b = self.channels
         return (refusal, value, self.rr0(0), a.rr1(), self.rr0(1), b.rr1(), self.rr2())
+
+
+# ---- Note list and line
+
+FLAG = [0, 1, 1, 1, 1, 1, 1, 0]
+
+
+def check_of(text):
+    """As it is sent, x^15 first."""
+    register = 0xFFFF
+    for byte in text:
+        for bit in low_first(byte, 8):
+            register = check_step(register, bit)
+    return [(~register >> k) & 1 for k in range(15, -1, -1)]
+
+
+def line_of(note):
+    """The bits of a note's frame, flags included, and the zeros inserted."""
+    if not 1 <= len(note) <= 2048:
+        raise Refused(6)
+    bits, ones, zeros = [], 0, 0
+    for bit in [b for byte in note for b in low_first(byte, 8)] + check_of(note):
+        bits.append(bit)
+        ones = ones + 1 if bit else 0
+        if ones == 5:
+            bits.append(0)
+            ones, zeros = 0, zeros + 1
+    return FLAG + bits + FLAG, zeros
+
+
+def written(note, room, place):
+    bits, zeros = line_of(note)
+    if place > room or room - place < len(bits):
+        raise Refused(8)
+    return bits, zeros
+
+
+def notes_of(data):
+    if len(data) > 65535:
+        raise Refused(9)
+    if not data or data[0] != 1:
+        raise Refused(5)
+    notes, i = [], 1
+    while i < len(data):
+        if len(data) - i < 2:
+            raise Refused(7)
+        length = data[i] << 8 | data[i + 1]
+        if not 1 <= length <= 2048:
+            raise Refused(6)
+        if len(data) - i - 2 < length:
+            raise Refused(7)
+        notes.append(data[i + 2:i + 2 + length])
+        i += 2 + length
+    return notes
+
+
+def report(data):
+    """A row for each note of a list, and the ticks in all: a closing flag opens the next frame."""
+    rows = []
+    for number, note in enumerate(notes_of(data), 1):
+        bits, zeros = line_of(note)
+        rows.append([number, len(note), zeros, len(bits)])
+    return rows, sum(row[3] for row in rows) - 8 * max(len(rows) - 1, 0)
 
 
 def run(data):

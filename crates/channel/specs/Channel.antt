@@ -9,14 +9,15 @@ use Rattle.receiver.specs.declared.Receiver.{Receiver}
 use Rattle.receiver.specs.Receiver as receiving
 use Rattle.settings.specs.declared.Registers.{Registers}
 use Rattle.settings.specs.declared.Lines.{Lines}
-use Rattle.channel.specs.declared.Live.{Live}
-use Rattle.channel.specs.declared.Status.{Status}
-use Rattle.channel.specs.declared.Sources.{Sources}
+use Rattle.interrupts.specs.declared.Sources.{Sources}
+use Rattle.interrupts.specs.Interrupts.{noSources}
+use Rattle.status.specs.declared.Live.{Live}
+use Rattle.status.specs.declared.Status.{Status}
+use Rattle.status.specs.Status.{status, quietLive, noticed}
 use Rattle.channel.specs.declared.Channel.{Channel}
 use Rattle.channel.specs.declared.Answer.{Answer}
 use Rattle.channel.specs.declared.Answered.{Answered}
 use Rattle.settings.specs.Settings.{registers, receivingOf}
-use Rattle.channel.specs.Status.{status, quietLive, noticed}
 
 -- The parts of a channel, and what changes one of them
 
@@ -62,7 +63,7 @@ answered w c = record { answer = w; channel = c }
 unfoldable pub liveOf : Channel → Live
 liveOf c = record {
   abort = c .receiver .broken;
-  underrun = c .sender .core .latch;
+  underrun = c .sender .shared .latch;
   cts = c .lines .cts;
   hunt = receiving.hunting (receivingOf (c .registers) (c .lines)) (c .receiver);
   dcd = c .lines .dcd;
@@ -75,9 +76,6 @@ settled was is = withStatus is (noticed (is .status) (liveOf was) (liveOf is))
 
 abbrev pub noRegisters : Registers
 noRegisters = registers 0 0 0 0 0 0 0
-
-abbrev pub noSources : Sources
-noSources = record { receive = false; transmit = false; external = false }
 
 -- "A channel reset zeroes the WRs, empties buffer and queue, leaves no mode, sets D6, clears D7 and RR1 D4 and D5, arms the first-character
 -- interrupt, presets both checks to ones, ends that channel's pending and in-service sources and unlatches external status."

@@ -13,12 +13,12 @@ use Rattle.sender.specs.Sender.{aborted, checkPreset, latchCleared, idled, allS
 use Rattle.receiver.specs.Receiver.{enterHunt, modeChanged, presetCheck}
 use Rattle.channel.specs.declared.Side.{Side}
 use Rattle.channel.specs.declared.Side.the-variants.{A, B}
-use Rattle.channel.specs.declared.Live.{Live}
+use Rattle.status.specs.declared.Live.{Live}
 use Rattle.channel.specs.declared.Channel.{Channel}
 use Rattle.channel.specs.declared.Answer.the-variants.{Done, Gave, Refused}
 use Rattle.channel.specs.declared.Answered.{Answered}
 use Rattle.settings.specs.Settings.{store1, store2, store3, store4, store5, store6, store7, commandIn, presetIn, pointerIn, transmitOn, entersHunt, modeOf, notBuilt, sendingOf}
-use Rattle.channel.specs.Status.{shownBits, afresh}
+use Rattle.status.specs.Status.{shownBits, afresh}
 use Rattle.channel.specs.Channel.{withRegisters, withSender, withReceiver, withQueue, withStatus, withPointer, withArmed, withTransmit, answered, liveOf, settled, resetWith}
 
 -- WR0

@@ -11,7 +11,7 @@ use Rattle.sender.specs.Sender.{tick, written}
 use Rattle.receiver.specs.declared.Heard.{Heard}
 use Rattle.receiver.specs.Receiver.{hear}
 use Rattle.settings.specs.declared.Lines.{Lines}
-use Rattle.channel.specs.declared.Sources.{Sources}
+use Rattle.interrupts.specs.declared.Sources.{Sources}
 use Rattle.channel.specs.declared.Channel.{Channel}
 use Rattle.channel.specs.declared.Answer.the-variants.{Gave}
 use Rattle.channel.specs.declared.Answered.{Answered}
@@ -57,14 +57,14 @@ linesSet c dcd cts = settled c (withLines c (record { dcd = dcd; cts = cts }))
 
 -- 01, Interrupts: the oldest entry is "special: overrun, framing, frame end, parity in mode 2"
 unfoldable pub specialWaits : Channel → Bool
-specialWaits c = special (c .queue) (eqb (receiveMode (c .registers)) 2)
+specialWaits c = special (c .queue) (eqb (receiveMode (c .registers .wr1)) 2)
 
 -- "Receive is pending by mode if a character waits (mode 1: and armed), or, modes 1 to 3, if the oldest entry is special"
 unfoldable pub receivePending : Channel → Bool
 receivePending c =
-    let m = receiveMode (c .registers) in
+    let m = receiveMode (c .registers .wr1) in
     not (eqb m 0) && ((waits (c .queue) && (not (eqb m 1) || c .armed)) || specialWaits c)
 
 -- "External: latched and WR1 D0."
 unfoldable pub pendingIn : Channel → Sources
-pendingIn c = record { receive = receivePending c; transmit = c .transmit; external = c .status .latched && externalOn (c .registers) }
+pendingIn c = record { receive = receivePending c; transmit = c .transmit; external = c .status .latched && externalOn (c .registers .wr1) }

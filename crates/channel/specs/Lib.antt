@@ -1,5 +1,4 @@
 pub mod Answer
-pub mod Status
 pub mod Channel
 pub mod Control
 pub mod Events

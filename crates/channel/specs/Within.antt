@@ -1,16 +1,17 @@
--- Most ticks, in a form of their own and no part of 01: in SDLC, inside a byte that is sent with no break, nothing but the sender changes, and
--- inside a character that is heard nothing but the receiver. That they are the ticks is said in Laws/Within. Assumes nothing.
+-- Most ticks, in a form of their own and no part of 01: in SDLC, inside a byte that is sent with no
+-- break, nothing but the sender changes, and inside a character that is heard nothing but the receiver.
+-- That they are the ticks is said in Laws/Within. Assumes nothing.
 use mathlib.Core.Bool.{Bool, not, _&&_}
 use Rattle.common.specs.Mode.{inSdlc}
 use Rattle.line.specs.Bits.{oneIf}
+use Rattle.sdlc.specs.declared.Framed.{Framed}
+use Rattle.sdlc.specs.Within.{within, tickWithin, hearsOn, movedOn}
 use Rattle.sender.specs.declared.Sender.{Sender}
 use Rattle.sender.specs.declared.Sending.{Sending}
-use Rattle.sender.specs.declared.Ticked.{Ticked}
-use Rattle.sender.specs.Within.{within, tickWithin}
+use Rattle.sender.specs.Sender.{framerOf, framerIn}
 use Rattle.receiver.specs.declared.Receiver.{Receiver}
 use Rattle.receiver.specs.declared.Receiving.{Receiving}
-use Rattle.receiver.specs.Within as hearing
-use Rattle.receiver.specs.Within.{movedOn}
+use Rattle.receiver.specs.Receiver.{listenerOf, listenerIn}
 use Rattle.settings.specs.Settings.{receivingOf, sendingOf}
 use Rattle.channel.specs.declared.Answer.the-variants.{Gave}
 use Rattle.channel.specs.declared.Answered.{Answered}
@@ -18,22 +19,23 @@ use Rattle.channel.specs.declared.Channel.{Channel}
 use Rattle.channel.specs.Channel.{answered, withSender, withReceiver}
 
 abbrev pub sendsWithin : Sending → Sender → Bool
-sendsWithin g s = inSdlc (g .mode) && (not (g .broken) && within s)
+sendsWithin g s = inSdlc (g .mode) && (not (g .broken) && within (framerOf s))
 
 unfoldable pub withinByte : Channel → Bool
 withinByte c = sendsWithin (sendingOf (c .registers) (c .lines)) (c .sender)
 
-abbrev pub sentOn : Channel → Ticked → Answered
-sentOn c t = answered (Gave (oneIf (t .bit))) (withSender c (t .sender))
+abbrev pub sentOn : Channel → Framed → Answered
+sentOn c t = answered (Gave (oneIf (t .bit))) (withSender c (framerIn (c .sender) (t .framer)))
 
 unfoldable pub tickedWithin : Channel → Answered
-tickedWithin c = sentOn c (tickWithin (c .sender))
+tickedWithin c = sentOn c (tickWithin (framerOf (c .sender)))
 
-abbrev pub hearsOn : Receiving → Receiver → Bool → Bool
-hearsOn g v b = inSdlc (g .mode) && (g .on && hearing.within v b)
+abbrev pub hearsInside : Receiving → Receiver → Bool → Bool
+hearsInside g v b = inSdlc (g .mode) && (g .on && hearsOn (listenerOf v) b)
 
 unfoldable pub hearsWithin : Channel → Bool → Bool
-hearsWithin c b = hearsOn (receivingOf (c .registers) (c .lines)) (c .receiver) b
+hearsWithin c b = hearsInside (receivingOf (c .registers) (c .lines)) (c .receiver) b
 
 abbrev pub heardWithin : Channel → Bool → Channel
-heardWithin c b = withReceiver c (movedOn (c .receiver) b)
+heardWithin c b =
+    withReceiver c (listenerIn (c .receiver) (movedOn (listenerOf (c .receiver)) b))

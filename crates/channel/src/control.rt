@@ -7,8 +7,13 @@ use common::Mode;
 use common::Refusal;
 use common::in_sdlc;
 use common::placed;
+use settings::command_in;
+use settings::enters_hunt;
 use settings::mode_of;
 use settings::not_built;
+use settings::pointer_in;
+use settings::preset_in;
+use settings::transmit_on;
 ghost use mathlib.Core.Path.{_≡_};
 ghost use Rattle.channel.specs.Control.{commanded, preset, commandStep, presetStep, writeWr0, setWr1, setWr2, setWr3, sameMode, inMode, setWr4, setRegister, controlWritten};
 ghost use Rattle.channel.specs.Control.{rr0, rr1Now, readRegister, controlRead};
@@ -38,60 +43,50 @@ fn same_mode(m: Mode, n: Mode) -> bool
 
 impl Channel {
     // A command of WR0 but Channel Reset.
-    fn commanded(self, command: u8) -> Channel
+    fn commanded(mut self, command: u8) -> Channel
         ensures { λ r. ⌜ r ≡ commanded self command ⌝ }
     {
-        let mut c = self;
         match command {
             Channel::SEND_ABORT => {
-                let r = self.registers;
-                let l = self.lines;
-                let s = self.sender;
-                c.sender = s.send_abort(r.sending(l));
-                c
+                self.sender = self.sender.send_abort(self.registers.sending(self.lines));
+                self
             }
             Channel::RESET_STATUS => {
-                let t = self.status;
-                c.status = t.afresh(self.live());
-                c
+                self.status = self.status.afresh(self.live());
+                self
             }
             Channel::ARM_FIRST_CHARACTER => {
-                c.armed = true;
-                c
+                self.armed = true;
+                self
             }
             Channel::RESET_TRANSMIT => {
-                c.transmit = false;
-                c
+                self.transmit = false;
+                self
             }
             Channel::ERROR_RESET => {
-                let q = self.queue;
-                c.queue = q.error_reset();
-                c
+                self.queue = self.queue.error_reset();
+                self
             }
             _ => self,
         }
     }
 
     // WR0's D7-6.
-    fn preset(self, code: u8) -> Channel
+    fn preset(mut self, code: u8) -> Channel
         ensures { λ r. ⌜ r ≡ preset self code ⌝ }
     {
-        let mut c = self;
         match code {
             Channel::PRESET_RECEIVE_CHECK => {
-                let v = self.receiver;
-                c.receiver = v.preset_check();
-                c
+                self.receiver = self.receiver.preset_check();
+                self
             }
             Channel::PRESET_TRANSMIT_CHECK => {
-                let s = self.sender;
-                c.sender = s.preset_check();
-                c
+                self.sender = self.sender.preset_check();
+                self
             }
             Channel::CLEAR_UNDERRUN => {
-                let s = self.sender;
-                c.sender = s.clear_latch();
-                c
+                self.sender = self.sender.clear_latch();
+                self
             }
             _ => self,
         }
@@ -100,111 +95,100 @@ impl Channel {
     fn command_step(self, v: u8) -> Channel
         ensures { λ r. ⌜ r ≡ commandStep self v ⌝ }
     {
-        self.commanded(v / 8 % 8).settled(self)
+        self.commanded(command_in(v)).settled(self)
     }
 
     fn preset_step(self, v: u8) -> Channel
         ensures { λ r. ⌜ r ≡ presetStep self v ⌝ }
     {
-        self.preset(v / 64).settled(self)
+        self.preset(preset_in(v)).settled(self)
     }
 
     // WR0.
     fn write_wr0(self, v: u8) -> Channel
         ensures { λ r. ⌜ r ≡ writeWr0 self v ⌝ }
     {
-        if v / 8 % 8 == Channel::CHANNEL_RESET {
+        if command_in(v) == Channel::CHANNEL_RESET {
             return Channel::reset(self.lines);
         }
         let mut c = self.command_step(v).preset_step(v);
-        c.pointer = v % 8;
+        c.pointer = pointer_in(v);
         c
     }
 
-    fn set_wr1(self, v: u8) -> Channel
+    fn set_wr1(mut self, v: u8) -> Channel
         ensures { λ r. ⌜ r ≡ setWr1 self v ⌝ }
     {
-        let mut c = self;
-        c.registers.wr1 = v;
-        c.transmit = self.transmit & (v / 2 % 2 == 1);
-        c
+        self.registers.wr1 = v;
+        self.transmit = self.transmit & transmit_on(v);
+        self
     }
 
-    fn set_wr2(self, w: Side, v: u8) -> Channel
+    fn set_wr2(mut self, w: Side, v: u8) -> Channel
         ensures { λ r. ⌜ r ≡ setWr2 self w v ⌝ }
     {
         match w {
             Side::A => self,
             Side::B => {
-                let mut c = self;
-                c.registers.wr2 = v;
-                c
+                self.registers.wr2 = v;
+                self
             }
         }
     }
 
-    fn set_wr3(self, v: u8) -> Channel
+    fn set_wr3(mut self, v: u8) -> Channel
         ensures { λ r. ⌜ r ≡ setWr3 self v ⌝ }
     {
-        let r = self.registers;
-        let mut c = self;
-        c.registers.wr3 = v;
-        if (v / 16 % 2 == 1) & in_sdlc(mode_of(r.wr4)) {
-            let x = self.receiver;
-            c.receiver = x.enter_hunt();
-            return c;
+        self.registers.wr3 = v;
+        if enters_hunt(v) & in_sdlc(mode_of(self.registers.wr4)) {
+            self.receiver = self.receiver.enter_hunt();
+            return self;
         }
-        c
+        self
     }
 
     // The sender idles, and the receiver starts again.
-    fn in_mode(self, m: Mode) -> Channel
+    fn in_mode(mut self, m: Mode) -> Channel
         ensures { λ r. ⌜ r ≡ inMode self m ⌝ }
     {
-        let s = self.sender;
-        let v = self.receiver;
-        let mut c = self;
-        c.sender = s.idle();
-        c.receiver = v.mode_changed(in_sdlc(m));
-        c
+        self.sender = self.sender.idle();
+        self.receiver = self.receiver.mode_changed(in_sdlc(m));
+        self
     }
 
     // A WR4 that is accepted.
-    fn set_wr4(self, v: u8) -> Channel
+    fn set_wr4(mut self, v: u8) -> Channel
         ensures { λ r. ⌜ r ≡ setWr4 self v ⌝ }
     {
-        let r = self.registers;
         let m = mode_of(v);
-        let same = same_mode(mode_of(r.wr4), m);
-        let mut c = self;
-        c.registers.wr4 = v;
+        let same = same_mode(mode_of(self.registers.wr4), m);
+        self.registers.wr4 = v;
         if same {
-            return c;
+            return self;
         }
-        c.in_mode(m)
+        self.in_mode(m)
     }
 
     // The register that the pointer names.
-    fn set_register(self, w: Side, p: u8, v: u8) -> Channel
+    fn set_register(mut self, w: Side, p: u8, v: u8) -> Channel
         ensures { λ r. ⌜ r ≡ setRegister self w p v ⌝ }
     {
-        let mut c = self;
         match p {
             1 => self.set_wr1(v),
             2 => self.set_wr2(w, v),
             3 => self.set_wr3(v),
             4 => self.set_wr4(v),
             5 => {
-                c.registers.wr5 = v;
-                c
+                self.registers.wr5 = v;
+                self
             }
             6 => {
-                c.registers.wr6 = v;
-                c
+                self.registers.wr6 = v;
+                self
             }
             _ => {
-                c.registers.wr7 = v;
-                c
+                self.registers.wr7 = v;
+                self
             }
         }
     }
@@ -213,20 +197,19 @@ impl Channel {
     pub fn control_write(self, w: Side, v: u8) -> Answered
         ensures { λ r. ⌜ r ≡ controlWritten self w v ⌝ }
     {
-        let p = self.pointer;
-        if p == 0 {
+        if self.pointer == 0 {
             return Answered {
                 answer: Answer::Done,
                 channel: self.write_wr0(v),
             };
         }
-        if (p == 4) & not_built(v) {
+        if (self.pointer == 4) & not_built(v) {
             return Answered {
                 answer: Answer::Refused(Refusal::Setting),
                 channel: self,
             };
         }
-        let mut c = self.set_register(w, p, v).settled(self);
+        let mut c = self.set_register(w, self.pointer, v).settled(self);
         c.pointer = 0;
         Answered {
             answer: Answer::Done,
@@ -238,13 +221,10 @@ impl Channel {
     pub fn rr0(self, pending: bool) -> u8
         ensures { λ r. ⌜ r ≡ rr0 self pending ⌝ }
     {
-        let t = self.status;
-        let q = self.queue;
-        let x = self.sender;
-        let s = t.shown_bits(self.live());
-        let d0 = placed(q.waits(), 0b1);
+        let s = self.status.shown_bits(self.live());
+        let d0 = placed(self.queue.waits(), 0b1);
         let d1 = placed(pending, 0b10);
-        let d2 = placed(x.buffer_ready(), 0b100);
+        let d2 = placed(self.sender.buffer_ready(), 0b100);
         let d3 = placed(s.dcd, 0b1000);
         let d4 = placed(s.hunt, 0b10000);
         let d5 = placed(s.cts, 0b100000);
@@ -257,11 +237,8 @@ impl Channel {
     pub fn rr1(self) -> u8
         ensures { λ r. ⌜ r ≡ rr1Now self ⌝ }
     {
-        let r = self.registers;
-        let l = self.lines;
-        let s = self.sender;
-        let q = self.queue;
-        q.rr1(s.all_sent(r.sending(l)))
+        self.queue
+            .rr1(self.sender.all_sent(self.registers.sending(self.lines)))
     }
 
     // The register that the pointer names; pending and vector are the chip's to say.
@@ -278,15 +255,14 @@ impl Channel {
     }
 
     // A control read.
-    pub fn control_read(self, pending: bool, vector: u8) -> Answered
+    pub fn control_read(mut self, pending: bool, vector: u8) -> Answered
         ensures { λ r. ⌜ r ≡ controlRead self pending vector ⌝ }
     {
         let v = self.read_register(pending, vector);
-        let mut c = self;
-        c.pointer = 0;
+        self.pointer = 0;
         Answered {
             answer: Answer::Gave(v),
-            channel: c,
+            channel: self,
         }
     }
 }

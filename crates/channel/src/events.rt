@@ -3,41 +3,40 @@ use crate::Answer;
 use crate::Answered;
 use crate::Channel;
 use crate::DataRead;
-use crate::Sources;
 use crate::Taken;
+use interrupts::Sources;
 use queue::Queue;
 use receiver::Heard;
 use sender::Ticked;
 use settings::Lines;
+use settings::external_on;
+use settings::receive_mode;
+use settings::transmit_on;
 ghost use mathlib.Core.Path.{_≡_};
 ghost use Rattle.line.specs.Bits.{oneIf};
 ghost use Rattle.channel.specs.Events.{dataWritten, dataRead, afterTick, transmitTick, queued, heardBy, receiveTick, linesSet, specialWaits, receivePending, pendingIn};
 
 impl Channel {
     // A data write.
-    pub fn data_write(self, v: u8) -> Channel
+    pub fn data_write(mut self, v: u8) -> Channel
         ensures { λ r. ⌜ r ≡ dataWritten self v ⌝ }
     {
-        let s = self.sender;
-        let mut c = self;
-        c.sender = s.write(v);
-        c.transmit = false;
-        c
+        self.sender = self.sender.write(v);
+        self.transmit = false;
+        self
     }
 
     // A data read.
-    pub fn data_read(self) -> DataRead
+    pub fn data_read(mut self) -> DataRead
         ensures { λ r. ⌜ r ≡ dataRead self ⌝ }
     {
-        let q = self.queue;
-        if q.waits() {
-            let e = q.oldest();
-            let mut c = self;
-            c.queue = q.take();
-            c.armed = false;
+        if self.queue.waits() {
+            let e = self.queue.oldest();
+            self.queue = self.queue.take();
+            self.armed = false;
             return DataRead {
                 taken: Taken::Byte(e.byte),
-                channel: c,
+                channel: self,
             };
         }
         DataRead {
@@ -46,25 +45,20 @@ impl Channel {
         }
     }
 
-    fn after_tick(self, t: Ticked) -> Channel
+    fn after_tick(mut self, t: Ticked) -> Channel
         ensures { λ r. ⌜ r ≡ afterTick self t ⌝ }
     {
-        let r = self.registers;
         let s = t.sender;
-        let mut c = self;
-        c.sender = s;
-        c.transmit = self.transmit | (t.loaded & (r.wr1 / 2 % 2 == 1));
-        c
+        self.sender = s;
+        self.transmit = self.transmit | (t.loaded & transmit_on(self.registers.wr1));
+        self
     }
 
     // A transmit tick.
     pub fn transmit_tick(self) -> Answered
         ensures { λ r. ⌜ r ≡ transmitTick self ⌝ }
     {
-        let r = self.registers;
-        let l = self.lines;
-        let s = self.sender;
-        let t = s.tick(r.sending(l));
+        let t = self.sender.tick(self.registers.sending(self.lines));
         let c = self.after_tick(t).settled(self);
         Answered {
             answer: Answer::Gave(cell(t.bit)),
@@ -72,36 +66,21 @@ impl Channel {
         }
     }
 
-    fn queued(self, h: Heard) -> Queue
-        ensures { λ r. ⌜ r ≡ queued (self .queue) h ⌝ }
-    {
-        let q = self.queue;
-        if h.some {
-            let e = h.entry;
-            return q.push(e);
-        }
-        q
-    }
-
-    fn heard_by(self, h: Heard) -> Channel
+    fn heard_by(mut self, h: Heard) -> Channel
         ensures { λ r. ⌜ r ≡ heardBy self h ⌝ }
     {
         let v = h.receiver;
-        let q = self.queued(h);
-        let mut c = self;
-        c.receiver = v;
-        c.queue = q;
-        c
+        self.receiver = v;
+        self.queue = queued(self.queue, h);
+        self
     }
 
     // A receive tick.
     pub fn receive_tick(self, bit: bool) -> Channel
         ensures { λ r. ⌜ r ≡ receiveTick self bit ⌝ }
     {
-        let r = self.registers;
-        let l = self.lines;
-        let v = self.receiver;
-        let h = v.hear(r.receiving(l), bit);
+        let h = self.receiver
+            .hear(self.registers.receiving(self.lines), bit);
         self.heard_by(h).settled(self)
     }
 
@@ -119,32 +98,37 @@ impl Channel {
     pub fn special_waits(self) -> bool
         ensures { λ r. ⌜ r ≡ specialWaits self ⌝ }
     {
-        let r = self.registers;
-        let q = self.queue;
-        q.special(r.wr1 / 8 % 4 == 2)
+        self.queue.special(receive_mode(self.registers.wr1) == 2)
     }
 
     fn receive_pending(self) -> bool
         ensures { λ r. ⌜ r ≡ receivePending self ⌝ }
     {
-        let r = self.registers;
-        let q = self.queue;
-        let m = r.wr1 / 8 % 4;
-        (m != 0) & ((q.waits() & ((m != 1) | self.armed)) | self.special_waits())
+        let m = receive_mode(self.registers.wr1);
+        (m != 0) & ((self.queue.waits() & ((m != 1) | self.armed)) | self.special_waits())
     }
 
     // The sources that are pending.
     pub fn pending(self) -> Sources
         ensures { λ r. ⌜ r ≡ pendingIn self ⌝ }
     {
-        let r = self.registers;
-        let t = self.status;
         Sources {
             receive: self.receive_pending(),
             transmit: self.transmit,
-            external: t.latched & (r.wr1 % 2 == 1),
+            external: self.status.latched & external_on(self.registers.wr1),
         }
     }
+}
+
+// What the receiver hands over is queued.
+fn queued(q: Queue, h: Heard) -> Queue
+    ensures { λ r. ⌜ r ≡ queued q h ⌝ }
+{
+    if h.some {
+        let e = h.entry;
+        return q.push(e);
+    }
+    q
 }
 
 // A line bit as a number.

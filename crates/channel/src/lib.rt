@@ -5,41 +5,22 @@ mod external;
 mod within;
 
 use common::Refusal;
+use interrupts::Sources;
 use queue::Queue;
 use receiver::Receiver;
 use sender::Sender;
 use settings::Lines;
 use settings::Registers;
+use status::Live;
+use status::Status;
 ghost use mathlib.Core.Path.{_≡_};
 ghost use Rattle.channel.specs.Answer.{answerNumber, answerValue};
-ghost use Rattle.channel.specs.Channel.{noSources, resetWith};
+ghost use Rattle.channel.specs.Channel.{resetWith};
 
 // Which of the two channels.
 pub enum Side {
     A,
     B,
-}
-
-// The five bits of RR0 that are latched together: D7 to D3.
-pub struct Live {
-    pub abort: bool,
-    pub underrun: bool,
-    pub cts: bool,
-    pub hunt: bool,
-    pub dcd: bool,
-}
-
-// External status: whether it is latched, and what it then shows.
-pub struct Status {
-    pub latched: bool,
-    pub shown: Live,
-}
-
-// A channel's three interrupt sources, highest first.
-pub struct Sources {
-    pub receive: bool,
-    pub transmit: bool,
-    pub external: bool,
 }
 
 pub struct Channel {
@@ -80,19 +61,6 @@ pub enum Taken {
 pub struct DataRead {
     pub taken: Taken,
     pub channel: Channel,
-}
-
-impl Sources {
-    // No source.
-    pub fn none() -> Sources
-        ensures { λ r. ⌜ r ≡ noSources ⌝ }
-    {
-        Sources {
-            receive: false,
-            transmit: false,
-            external: false,
-        }
-    }
 }
 
 impl Answer {

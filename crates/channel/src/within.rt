@@ -13,22 +13,18 @@ impl Channel {
     pub fn within(self) -> bool
         ensures { λ r. ⌜ r ≡ withinByte self ⌝ }
     {
-        let r = self.registers;
-        let s = self.sender;
-        let g = r.sending(self.lines);
+        let g = self.registers.sending(self.lines);
         let m = g.mode;
-        in_sdlc(m) & (!g.broken & s.within())
+        in_sdlc(m) & (!g.broken & framing::within(self.sender.framer()))
     }
 
     // The tick, if so.
     pub fn tick_within(self) -> Answered
         ensures { λ r. ⌜ r ≡ tickedWithin self ⌝ }
     {
-        let s = self.sender;
-        let t = s.tick_within();
-        let n = t.sender;
+        let t = framing::tick_within(self.sender.framer());
         let mut c = self;
-        c.sender = n;
+        c.sender = self.sender.with_framer(t.framer);
         Answered {
             answer: Answer::Gave(cell(t.bit)),
             channel: c,
@@ -39,20 +35,18 @@ impl Channel {
     pub fn hears_within(self, bit: bool) -> bool
         ensures { λ r. ⌜ r ≡ hearsWithin self bit ⌝ }
     {
-        let r = self.registers;
-        let v = self.receiver;
-        let g = r.receiving(self.lines);
+        let g = self.registers.receiving(self.lines);
         let m = g.mode;
-        in_sdlc(m) & (g.on & v.within(bit))
+        in_sdlc(m) & (g.on & listening::hears_within(self.receiver.listener(), bit))
     }
 
     // The tick, if so.
     pub fn hear_within(self, bit: bool) -> Channel
         ensures { λ r. ⌜ r ≡ heardWithin self bit ⌝ }
     {
-        let v = self.receiver;
         let mut c = self;
-        c.receiver = v.hear_within(bit);
+        c.receiver = self.receiver
+            .with_listener(listening::hear_within(self.receiver.listener(), bit));
         c
     }
 }

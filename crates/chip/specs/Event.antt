@@ -1,15 +1,17 @@
--- 01, Events: "Hard reset; control write, control read, data write, data read; transmit tick ..; receive tick ..; set DCD and CTS; acknowledge; RETI."
--- An event with what it is given, and what it makes of a chip. Assumes nothing.
+-- 01, Events: "Hard reset; control write, control read, data write, data read; transmit tick ..;
+-- receive tick ..; set DCD and CTS; acknowledge; RETI." An event with what it is given, and what
+-- it makes of a chip. Assumes nothing.
 use Prim.Native.Nat.{ℕ}
 use Rattle.common.specs.declared.Refusal.the-variants as refusal
+use Rattle.vector.specs.declared.Acked.{Acked}
+use Rattle.vector.specs.declared.Acked.the-variants.{Vector, NothingWaits}
 use Rattle.channel.specs.declared.Answer.{Answer}
 use Rattle.channel.specs.declared.Answer.the-variants.{Done, Gave, Refused}
 use Rattle.chip.specs.declared.Chip.{Chip}
 use Rattle.chip.specs.declared.Outcome.{Outcome}
-use Rattle.chip.specs.declared.Acked.{Acked}
-use Rattle.chip.specs.declared.Acked.the-variants.{Vector, NothingWaits}
 use Rattle.chip.specs.Interrupts.{acknowledge, reti}
-use Rattle.chip.specs.Chip.{outcome, hardReset, controlWrite, controlReadCall, dataWriteCall, dataReadCall, transmitCall, receiveCall, linesCall}
+use Rattle.chip.specs.Chip.{outcome, hardReset, controlWrite, controlReadCall}
+use Rattle.chip.specs.Chip.{dataWriteCall, dataReadCall, transmitCall, receiveCall, linesCall}
 
 -- channels, bytes and line levels are numbers as the caller gives them
 pub data Event : Type 0 where

@@ -4,10 +4,12 @@ use mathlib.Core.List.{List, [], _∷_}
 use Prim.Native.Nat.{ℕ}
 use lib.Dec.{eqb, leb}
 use Rattle.common.specs.Choice.{if_then_else_}
+use Rattle.interrupts.specs.Interrupts.{mayTake}
 use Rattle.settings.specs.Settings.{notBuilt}
 use Rattle.chip.specs.declared.Chip.{Chip}
-use Rattle.chip.specs.Interrupts.{mayTake}
-use Rattle.chip.specs.Event.{Event, HardReset, ControlWrite, ControlRead, DataWrite, DataRead, Transmit, Receive, SetLines, Acknowledge, Reti}
+use Rattle.chip.specs.Interrupts.{pendingOf, serviceOf}
+use Rattle.chip.specs.Event.{Event, HardReset, ControlWrite, ControlRead, DataWrite, DataRead}
+use Rattle.chip.specs.Event.{Transmit, Receive, SetLines, Acknowledge, Reti}
 
 -- a row: its number, and whether it holds
 abbrev pub Row : Type 0
@@ -24,16 +26,18 @@ bitAbove bit = (2, leb 2 bit)
 abbrev pub linesAbove : ℕ → ℕ → Row
 linesAbove dcd cts = (2, leb 2 dcd || leb 2 cts)
 
--- 3: "a WR4 write with D7-6 not 00, or D3-2 = 10, or D3-2 = 00 and D5-4 not 10": a control write is one to WR4 while the pointer is at 4
+-- 3: "a WR4 write with D7-6 not 00, or D3-2 = 10, or D3-2 = 00 and D5-4 not 10": a control write
+-- is one to WR4 while the pointer is at 4
 abbrev pub pointerOf : Chip → ℕ → ℕ
 pointerOf c ch = if eqb ch 0 then c .a .pointer else c .b .pointer
 
 abbrev pub settingNotBuilt : Chip → ℕ → ℕ → Row
 settingNotBuilt c ch v = (3, eqb (pointerOf c ch) 4 && notBuilt v)
 
--- 4: "acknowledge with no pending source above all those in service"; Laws/Priority.antt has it in just these words
+-- 4: "acknowledge with no pending source above all those in service"; Laws/Priority.antt has it
+-- in just these words
 abbrev pub nothingAbove : Chip → Row
-nothingAbove c = (4, not (mayTake c))
+nothingAbove c = (4, not (mayTake (pendingOf c) (serviceOf c)))
 
 -- "The lowest number wins": the rows that an event knows, the lowest first
 abbrev pub rowsOf : Chip → Event → List Row

@@ -1,5 +1,5 @@
 // The chip: two channels, their interrupts, and the calls of document 01 with refusals 1 to 4. Any value of a chip is accepted. Assumes nothing.
-mod interrupts;
+mod sources;
 
 use channel::Answer;
 use channel::Answered;
@@ -8,9 +8,15 @@ use channel::Side;
 use channel::Taken;
 use common::Refusal;
 use settings::Lines;
+use settings::command_in;
+use vector::Acked;
 ghost use mathlib.Core.Path.{_≡_};
-ghost use Rattle.chip.specs.Interrupts.{chip};
-ghost use Rattle.chip.specs.Chip.{refused, inA, inB, hardReset, controlWriteA, controlWrite, controlReadCall, dataWriteCall, takenValue, dataReadCall, transmitCall, receiveCall, linesCall};
+ghost use Rattle.channel.specs.declared.Answer.the-variants.{Done};
+ghost use Rattle.channel.specs.Channel.{answered};
+ghost use Rattle.channel.specs.Events.{transmitTick};
+ghost use Rattle.chip.specs.Interrupts.{inService};
+ghost use Rattle.chip.specs.Chip.{refused, inA, inB, hardReset, serviceBy, controlWrite, controlReadCall, dataWriteIn, dataWriteCall};
+ghost use Rattle.chip.specs.Chip.{takenValue, dataReadIn, dataReadCall, transmitCall, receiveIn, receiveCall, linesIn, linesCall};
 
 pub struct Chip {
     pub a: Channel,
@@ -23,12 +29,7 @@ pub struct Outcome {
     pub chip: Chip,
 }
 
-// What an acknowledge answers: a vector, or refusal 4.
-pub enum Acked {
-    Vector(u8),
-    NothingWaits,
-}
-
+// What an acknowledge answers, and the chip after it.
 pub struct Acknowledged {
     pub acked: Acked,
     pub chip: Chip,
@@ -41,6 +42,54 @@ fn taken_value(t: Taken) -> u8
     match t {
         Taken::Byte(v) => v,
         Taken::Nothing => 0,
+    }
+}
+
+// A channel's event that gives no value, as a call answers it.
+fn done(c: Channel) -> Answered
+    ensures { λ r. ⌜ r ≡ answered Done c ⌝ }
+{
+    Answered {
+        answer: Answer::Done,
+        channel: c,
+    }
+}
+
+// A data write of a channel, as a call answers it; the others likewise.
+fn data_write_in(c: Channel, v: u8) -> Answered
+    ensures { λ r. ⌜ r ≡ dataWriteIn c v ⌝ }
+{
+    Answered {
+        answer: Answer::Done,
+        channel: c.data_write(v),
+    }
+}
+
+fn data_read_in(c: Channel) -> Answered
+    ensures { λ r. ⌜ r ≡ dataReadIn c ⌝ }
+{
+    let r = c.data_read();
+    let t = r.taken;
+    let x = r.channel;
+    let v = taken_value(t);
+    Answered {
+        answer: Answer::Gave(v),
+        channel: x,
+    }
+}
+
+fn lines_in(c: Channel, dcd: u8, cts: u8) -> Answered
+    ensures { λ r. ⌜ r ≡ linesIn c dcd cts ⌝ }
+{
+    if (2 <= dcd) | (2 <= cts) {
+        return Answered {
+            answer: Answer::Refused(Refusal::Level),
+            channel: c,
+        };
+    }
+    Answered {
+        answer: Answer::Done,
+        channel: c.set_lines(dcd == 1, cts == 1),
     }
 }
 
@@ -59,22 +108,6 @@ impl Chip {
         }
     }
 
-    fn with_a(self, x: Channel) -> Chip
-        ensures { λ r. ⌜ r ≡ chip x (self .b) ⌝ }
-    {
-        let mut c = self;
-        c.a = x;
-        c
-    }
-
-    fn with_b(self, x: Channel) -> Chip
-        ensures { λ r. ⌜ r ≡ chip (self .a) x ⌝ }
-    {
-        let mut c = self;
-        c.b = x;
-        c
-    }
-
     fn refused(self, k: Refusal) -> Outcome
         ensures { λ r. ⌜ r ≡ refused self k ⌝ }
     {
@@ -84,38 +117,39 @@ impl Chip {
         }
     }
 
-    fn in_a(self, x: Answered) -> Outcome
+    // A's answer, with that channel put back.
+    fn in_a(mut self, x: Answered) -> Outcome
         ensures { λ r. ⌜ r ≡ inA self x ⌝ }
     {
         let w = x.answer;
         let y = x.channel;
+        self.a = y;
         Outcome {
             answer: w,
-            chip: self.with_a(y),
+            chip: self,
         }
     }
 
-    fn in_b(self, x: Answered) -> Outcome
+    fn in_b(mut self, x: Answered) -> Outcome
         ensures { λ r. ⌜ r ≡ inB self x ⌝ }
     {
         let w = x.answer;
         let y = x.channel;
+        self.b = y;
         Outcome {
             answer: w,
-            chip: self.with_b(y),
+            chip: self,
         }
     }
 
-    fn control_write_a(self, v: u8) -> Outcome
-        ensures { λ r. ⌜ r ≡ controlWriteA self v ⌝ }
+    // WR0's command 7 through A.
+    fn ending(self, v: u8) -> Chip
+        ensures { λ r. ⌜ r ≡ inService self (serviceBy self v) ⌝ }
     {
-        let a = self.a;
-        if (a.pointer == 0) & (v / 8 % 8 == Channel::END_SERVICE) {
-            let c = self.reti();
-            let x = c.a;
-            return c.in_a(x.control_write(Side::A, v));
+        if (self.a.pointer == 0) & (command_in(v) == Channel::END_SERVICE) {
+            return self.reti();
         }
-        self.in_a(a.control_write(Side::A, v))
+        self
     }
 
     // Control write.
@@ -123,11 +157,11 @@ impl Chip {
         ensures { λ r. ⌜ r ≡ controlWrite self ch v ⌝ }
     {
         if ch == 0 {
-            return self.control_write_a(v);
+            let c = self.ending(v);
+            return c.in_a(c.a.control_write(Side::A, v));
         }
         if ch == 1 {
-            let b = self.b;
-            return self.in_b(b.control_write(Side::B, v));
+            return self.in_b(self.b.control_write(Side::B, v));
         }
         self.refused(Refusal::Channel)
     }
@@ -137,12 +171,10 @@ impl Chip {
         ensures { λ r. ⌜ r ≡ controlReadCall self ch ⌝ }
     {
         if ch == 0 {
-            let a = self.a;
-            return self.in_a(a.control_read(self.any_pending(), 0));
+            return self.in_a(self.a.control_read(self.any_pending(), 0));
         }
         if ch == 1 {
-            let b = self.b;
-            return self.in_b(b.control_read(false, self.rr2()));
+            return self.in_b(self.b.control_read(false, self.rr2()));
         }
         self.refused(Refusal::Channel)
     }
@@ -152,18 +184,10 @@ impl Chip {
         ensures { λ r. ⌜ r ≡ dataWriteCall self ch v ⌝ }
     {
         if ch == 0 {
-            let a = self.a;
-            return Outcome {
-                answer: Answer::Done,
-                chip: self.with_a(a.data_write(v)),
-            };
+            return self.in_a(data_write_in(self.a, v));
         }
         if ch == 1 {
-            let b = self.b;
-            return Outcome {
-                answer: Answer::Done,
-                chip: self.with_b(b.data_write(v)),
-            };
+            return self.in_b(data_write_in(self.b, v));
         }
         self.refused(Refusal::Channel)
     }
@@ -173,28 +197,31 @@ impl Chip {
         ensures { λ r. ⌜ r ≡ dataReadCall self ch ⌝ }
     {
         if ch == 0 {
-            let a = self.a;
-            let r = a.data_read();
-            let t = r.taken;
-            let x = r.channel;
-            let v = taken_value(t);
-            return Outcome {
-                answer: Answer::Gave(v),
-                chip: self.with_a(x),
-            };
+            return self.in_a(data_read_in(self.a));
         }
         if ch == 1 {
-            let b = self.b;
-            let r = b.data_read();
-            let t = r.taken;
-            let x = r.channel;
-            let v = taken_value(t);
-            return Outcome {
-                answer: Answer::Gave(v),
-                chip: self.with_b(x),
-            };
+            return self.in_b(data_read_in(self.b));
         }
         self.refused(Refusal::Channel)
+    }
+
+    // A's transmit tick, and B's. Most lie inside a byte: these are done here, with no further call (bench/README.md).
+    fn transmit_a(self) -> Outcome
+        ensures { λ r. ⌜ r ≡ inA self (transmitTick (self .a)) ⌝ }
+    {
+        if self.a.within() {
+            return self.in_a(self.a.tick_within());
+        }
+        self.in_a(self.a.transmit_tick())
+    }
+
+    fn transmit_b(self) -> Outcome
+        ensures { λ r. ⌜ r ≡ inB self (transmitTick (self .b)) ⌝ }
+    {
+        if self.b.within() {
+            return self.in_b(self.b.tick_within());
+        }
+        self.in_b(self.b.transmit_tick())
     }
 
     // Transmit tick.
@@ -202,20 +229,37 @@ impl Chip {
         ensures { λ r. ⌜ r ≡ transmitCall self ch ⌝ }
     {
         if ch == 0 {
-            let a = self.a;
-            if a.within() {
-                return self.in_a(a.tick_within());
-            }
-            return self.in_a(a.transmit_tick());
+            return self.transmit_a();
         }
         if ch == 1 {
-            let b = self.b;
-            if b.within() {
-                return self.in_b(b.tick_within());
-            }
-            return self.in_b(b.transmit_tick());
+            return self.transmit_b();
         }
         self.refused(Refusal::Channel)
+    }
+
+    // A's receive tick, and B's; most lie inside a character.
+    fn receive_a(self, bit: u8) -> Outcome
+        ensures { λ r. ⌜ r ≡ inA self (receiveIn (self .a) bit) ⌝ }
+    {
+        if 2 <= bit {
+            return self.refused(Refusal::Level);
+        }
+        if self.a.hears_within(bit == 1) {
+            return self.in_a(done(self.a.hear_within(bit == 1)));
+        }
+        self.in_a(done(self.a.receive_tick(bit == 1)))
+    }
+
+    fn receive_b(self, bit: u8) -> Outcome
+        ensures { λ r. ⌜ r ≡ inB self (receiveIn (self .b) bit) ⌝ }
+    {
+        if 2 <= bit {
+            return self.refused(Refusal::Level);
+        }
+        if self.b.hears_within(bit == 1) {
+            return self.in_b(done(self.b.hear_within(bit == 1)));
+        }
+        self.in_b(done(self.b.receive_tick(bit == 1)))
     }
 
     // Receive tick.
@@ -223,36 +267,10 @@ impl Chip {
         ensures { λ r. ⌜ r ≡ receiveCall self ch bit ⌝ }
     {
         if ch == 0 {
-            if 2 <= bit {
-                return self.refused(Refusal::Level);
-            }
-            let a = self.a;
-            if a.hears_within(bit == 1) {
-                return Outcome {
-                    answer: Answer::Done,
-                    chip: self.with_a(a.hear_within(bit == 1)),
-                };
-            }
-            return Outcome {
-                answer: Answer::Done,
-                chip: self.with_a(a.receive_tick(bit == 1)),
-            };
+            return self.receive_a(bit);
         }
         if ch == 1 {
-            if 2 <= bit {
-                return self.refused(Refusal::Level);
-            }
-            let b = self.b;
-            if b.hears_within(bit == 1) {
-                return Outcome {
-                    answer: Answer::Done,
-                    chip: self.with_b(b.hear_within(bit == 1)),
-                };
-            }
-            return Outcome {
-                answer: Answer::Done,
-                chip: self.with_b(b.receive_tick(bit == 1)),
-            };
+            return self.receive_b(bit);
         }
         self.refused(Refusal::Channel)
     }
@@ -262,24 +280,10 @@ impl Chip {
         ensures { λ r. ⌜ r ≡ linesCall self ch dcd cts ⌝ }
     {
         if ch == 0 {
-            if (2 <= dcd) | (2 <= cts) {
-                return self.refused(Refusal::Level);
-            }
-            let a = self.a;
-            return Outcome {
-                answer: Answer::Done,
-                chip: self.with_a(a.set_lines(dcd == 1, cts == 1)),
-            };
+            return self.in_a(lines_in(self.a, dcd, cts));
         }
         if ch == 1 {
-            if (2 <= dcd) | (2 <= cts) {
-                return self.refused(Refusal::Level);
-            }
-            let b = self.b;
-            return Outcome {
-                answer: Answer::Done,
-                chip: self.with_b(b.set_lines(dcd == 1, cts == 1)),
-            };
+            return self.in_b(lines_in(self.b, dcd, cts));
         }
         self.refused(Refusal::Channel)
     }

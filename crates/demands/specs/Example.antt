@@ -10,29 +10,21 @@ use Rattle.line.specs.Bits.{lowBits, textBits}
 use Rattle.line.specs.Check.{checkStep, checkOver, topBits, checkBits}
 use Rattle.line.specs.Insertion.{stuff, zeros}
 use Rattle.line.specs.Frame.{flagBits}
-use Rattle.line.specs.Laws.Bits.{none, more}
-use Rattle.queue.specs.Queue.{pushed, taken, oldest, special}
-use Rattle.queue.specs.Laws.{Holds, h0}
-use Rattle.sender.specs.Sender as sender
-use Rattle.receiver.specs.Sdlc.{accept, push, one, zeroBit}
-use Rattle.receiver.specs.Receiver.{hear}
-use Rattle.settings.specs.Settings.{modeOf, notBuilt, lengthOf, sendingOf, receivingOf}
-use Rattle.channel.specs.Status.{changed, noticed, afresh}
-use Rattle.channel.specs.Channel.{liveOf, settled}
-use Rattle.channel.specs.Control.{commanded, preset, commandStep, presetStep, writeWr0, setWr4, setRegister, controlWritten, rr0, rr1Now, readRegister}
-use Rattle.channel.specs.Events.{dataRead, transmitTick, receiveTick, linesSet, specialWaits, receivePending, pendingIn}
+use Rattle.line.specs.Bits.{below-none as none, below-more as more}
+use Rattle.queue.specs.Holding.{Holds, h0}
+use Rattle.chip.specs.Computing.{computing}
 use Rattle.chip.specs.declared.Chip.{Chip}
-use Rattle.chip.specs.Interrupts.{highestOf, pendingLevel, serviceLevel, anyPending, serving, atLevel, mayTake, acknowledge, reti}
-use Rattle.chip.specs.Chip.{controlWriteA, controlWrite, controlReadCall, dataWriteCall, dataReadCall, transmitCall, receiveCall, linesCall}
 use Rattle.chip.specs.Event.{Event, DataRead}
-use Rattle.come.specs.Start.{flagHead}
+use Rattle.frames.specs.Start.{flagHead}
 use Rattle.stories.specs.Story.{A, B, chan, after}
 use Rattle.stories.specs.Sent.{lineOf, ticks}
 use Rattle.stories.specs.Received.{bitsOf}
 use Rattle.stories.specs.Sending.{times, begin, noisy, begun}
 use Rattle.stories.specs.Receiving.{listening, story}
-use Rattle.demands.specs.Receiving.Statement.{sideOf, Listening, in-hunt, withCheck, ended, Received}
-use Rattle.demands.specs.Receiving.Deaf.{flagFree, lead, NoEndTold}
+use Rattle.frames.specs.Heard.{in-hunt, flagFree, lead}
+use Rattle.frames.specs.Frames.{ended}
+use Rattle.line.specs.Frame.{withCheck}
+use Rattle.demands.specs.Receiving.Statement.{sideOf, Listening, Received, NoEndTold}
 use Rattle.demands.specs.Receiving.Room.{inRoom, fed}
 use Rattle.demands.specs.Sending.Timely.{in-time}
 use Rattle.demands.specs.Sending.Abort.{abort-unheard}
@@ -67,7 +59,7 @@ pub record Examples : Type 0 where
   pub no-flag : flagFree 7 lead ≡ true
 
 pub examples : Examples
-unfolding inRoom flagFree bitsOf story times lineOf stuff textBits lowBits checkOver checkStep checkBits topBits after controlWriteA controlWrite controlReadCall dataWriteCall dataReadCall transmitCall receiveCall linesCall highestOf pendingLevel serviceLevel anyPending serving atLevel mayTake acknowledge reti liveOf settled commanded preset commandStep presetStep writeWr0 setWr4 setRegister controlWritten rr0 rr1Now readRegister dataRead transmitTick receiveTick linesSet specialWaits receivePending pendingIn changed noticed afresh sender.following sender.going sender.tickSdlc sender.tick hear one zeroBit push accept pushed taken oldest special modeOf notBuilt lengthOf sendingOf receivingOf
+unfolding computing inRoom flagFree bitsOf story times lineOf after
 examples = record {
   listens = record { mode = refl; on = refl; search = refl; empty = refl; three = refl; start = in-hunt refl };
   room = refl;

@@ -12,13 +12,16 @@ use lib.ListN.{length, getD}
 use Rattle.common.specs.Choice.{if_then_else_}
 use Rattle.common.specs.Tools.{bool-or}
 use Rattle.common.specs.Refusal.{numberOf}
-use Rattle.line.specs.declared.Counted.{Counted}
-use Rattle.line.specs.declared.Counted.the-variants as counted
+use Rattle.zeros.specs.declared.Counted.{Counted}
+use Rattle.zeros.specs.declared.Counted.the-variants as counted
 use Rattle.line.specs.Frame.{frame, ticksOf}
-use Rattle.line.specs.Line.{noteFits, countOf, writeOf, bufferAfter}
-use Rattle.notes.specs.declared.Head.{Head}
-use Rattle.notes.specs.declared.Head.the-variants.{End, Note, Bad}
-use Rattle.notes.specs.NoteList.{lengthBytes, lengthAt, headOf, Reading, whole, refuses, restFrom, firstNote, version, longestList, readList}
+use Rattle.line.specs.Line.{noteFits}
+use Rattle.zeros.specs.Zeros.{countOf}
+use Rattle.writer.specs.Writer.{writeOf, bufferAfter}
+use Rattle.head.specs.declared.Head.{Head}
+use Rattle.head.specs.declared.Head.the-variants.{End, Note, Bad}
+use Rattle.head.specs.NoteHead.{lengthBytes, lengthAt, headOf}
+use Rattle.notes.specs.NoteList.{Reading, whole, refuses, restFrom, firstNote, version, longestList, readList}
 use Rattle.chip.specs.declared.Chip.{Chip}
 use Rattle.chip.specs.Event.{Event}
 use Rattle.chip.specs.Refusals.{Row, rowsOf, firstRow}

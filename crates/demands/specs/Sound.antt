@@ -4,7 +4,7 @@ use mathlib.Core.Path.{_≡_}
 use mathlib.Core.List.{List, [], _∷_}
 use lib.ListN.{length}
 use Rattle.queue.specs.Queue.{room}
-use Rattle.sender.specs.Sound.{SoundSender}
+use Rattle.sdlc.specs.Sound.{SoundUnit}
 use Rattle.chip.specs.declared.Chip.{Chip}
 use Rattle.chip.specs.Chip.{hardReset}
 use Rattle.chip.specs.Event.{Event}
@@ -21,9 +21,10 @@ pub reset-sound : (st : List Event) → SoundChip (after hardReset st)
 reset-sound st = after-sound hardReset st hard-reset-sound
 
 -- `history` of demand 3's start
-pub sender-sound : (w : Which) (c : Chip) → SoundChip c → SoundSender (chan w c .sender)
-sender-sound A c h = h .0 .sender
-sender-sound B c h = h .1 .sender
+pub unit-sound : (w : Which) (c : Chip) → SoundChip c
+    → SoundUnit (chan w c .sender .unit) (chan w c .sender .insertion)
+unit-sound A c h = h .0 .sender .unit
+unit-sound B c h = h .1 .sender .unit
 
 -- `three` of demand 2's start
 pub queue-three : (w : Which) (c : Chip) → SoundChip c → length (chan w c .queue .entries) ≡ room

@@ -6,14 +6,16 @@ use Prim.Native.Nat.{ℕ, _+_, _-_, _*_}
 use native.Mathlib.Omega.{arith}
 use lib.ListN.{length}
 use Rattle.line.specs.Frame.{zerosOf}
-use Rattle.line.specs.Laws.Bits.{Below}
+use Rattle.line.specs.Bits.{Below}
 use Rattle.chip.specs.declared.Chip.{Chip}
 use Rattle.chip.specs.Event.{Event}
-use Rattle.come.specs.Start.{flagHead}
+use Rattle.frames.specs.Start.{flagHead}
 use Rattle.stories.specs.Story.{Which}
 use Rattle.stories.specs.Sent.{lineOf, ticks}
 use Rattle.stories.specs.Received.{bitsOf}
-use Rattle.demands.specs.Receiving.Statement.{Listening, Fed, Received, withCheck, ended}
+use Rattle.frames.specs.Frames.{ended}
+use Rattle.line.specs.Frame.{withCheck}
+use Rattle.demands.specs.Receiving.Statement.{Listening, Fed, Received}
 use Rattle.demands.specs.Receiving.Statement as receiving
 use Rattle.demands.specs.Receiving.Demand.{demand2}
 use Rattle.demands.specs.Sending.Statement.{Start, InTime}

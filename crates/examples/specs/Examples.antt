@@ -10,7 +10,7 @@ use Rattle.line.specs.Frame.{frame}
 use Rattle.chip.specs.declared.Chip.{Chip}
 use Rattle.chip.specs.Chip.{hardReset}
 use Rattle.chip.specs.Event.{Event, ControlWrite, ControlRead, DataWrite, DataRead, Acknowledge, Reti}
-use Rattle.station.specs.Report.{Report, report, refusal, reportOf}
+use Rattle.report.specs.Report.{Report, report, refusal, reportOf}
 use Rattle.examples.specs.Run.{after, given, ticks, heard, wired, digits}
 
 pub record Example : Type 0 where

@@ -3,16 +3,16 @@
 // heading's check and the body's, and worked out whole. The first bit sent is the lowest, as 906E is the check of 123456789. Where heading and body
 // together are no note, its refusal stands for the first two. Last `end` and the number of bodies. A bad list prints `refused N` alone.
 use common::Refusal;
+use head::Head;
+use head::LENGTH_BYTES;
+use head::head_at;
+use head::note_at;
 use heading::Heading;
 use heading::NoteCheck;
 use joining::CheckRule;
 use joining::check_of;
 use notes::FIRST_NOTE;
-use notes::Head;
-use notes::LENGTH_BYTES;
 use notes::Scanned;
-use notes::head_at;
-use notes::note_at;
 use notes::scan;
 
 fn print(text: &[u8]) {

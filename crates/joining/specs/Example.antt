@@ -9,7 +9,7 @@ use lib.ListN.{length}
 use Rattle.joining.specs.declared.CheckRule.{CheckRule}
 use Rattle.line.specs.Bits.{lowBits, textBits}
 use Rattle.line.specs.Check.{checkStep, checkOver, topBits}
-use Rattle.line.specs.Laws.Bits.{fromLow}
+use Rattle.line.specs.Bits.{fromLow}
 use Rattle.advance.specs.Advance.{advanced}
 use Rattle.joining.specs.Rule.{sdlcRule, synchronousRule, checkBy}
 use Rattle.joining.specs.Join.{joinedBy}

@@ -2,8 +2,8 @@
 use mathlib.Core.Bool.{Bool, true, false}
 use mathlib.Core.List.{List, [], _∷_, _++_}
 use Prim.Native.Nat.{ℕ}
-use lib.ListN.{length}
-use Rattle.line.specs.Bits.{textBits}
+use lib.ListN.{length, take, drop}
+use Rattle.line.specs.Bits.{textBits, fromLow}
 use Rattle.line.specs.Check.{sdlc, ones, checkOver, checkBits}
 use Rattle.line.specs.Insertion.{stuff, zeros}
 
@@ -20,6 +20,13 @@ checkOf note = checkOver sdlc ones (noteBits note)
 
 abbrev pub contentOf : List ℕ → List Bool
 contentOf note = noteBits note ++ checkBits (checkOf note)
+
+-- the check as two bytes, the first bit of each lowest, and the note followed by them
+unfoldable pub checkBytes : ℕ → List ℕ
+checkBytes r = fromLow (take 8 (checkBits r)) ∷ fromLow (drop 8 (checkBits r)) ∷ []
+
+abbrev pub withCheck : List ℕ → List ℕ
+withCheck note = note ++ checkBytes (checkOf note)
 
 -- flag, content with its inserted zeros, flag
 abbrev pub frame : List ℕ → List Bool

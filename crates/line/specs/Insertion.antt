@@ -1,11 +1,12 @@
--- 01, Sending: "After five ones in a row in byte and check bits, counted on from the opening flag, one 0 is owed and sent next,
--- even before the flag." The run is the number of ones just sent, and is below five before each bit; a greater one, which no
--- history makes, counts as four. Assumes nothing.
+-- 01, Sending: "After five ones in a row in byte and check bits, counted on from the opening flag,
+-- one 0 is owed and sent next, even before the flag." The run is the number of ones just sent, and is
+-- below five before each bit; a greater one, which no history makes, counts as four. Assumes nothing.
 use mathlib.Core.Bool.{Bool, true, false, not, _&&_}
 use mathlib.Core.List.{List, [], _∷_, _++_}
 use Prim.Native.Nat.{ℕ, _+_}
 use lib.Dec.{eqb, ltb}
 use Rattle.common.specs.Choice.{if_then_else_}
+use Rattle.line.specs.declared.Insertion.{Insertion}
 use Rattle.line.specs.Bits.{oneIf}
 
 -- this bit is the fifth one in a row
@@ -16,6 +17,10 @@ owes run b = b && not (ltb run 4)
 abbrev pub runAfter : ℕ → Bool → ℕ
 runAfter run true = if ltb run 4 then run + 1 else 0
 runAfter run false = 0
+
+-- both of them, as whoever sends a bit counts it
+abbrev pub counted : ℕ → Bool → Insertion
+counted run b = record { run = runAfter run b; owed = owes run b }
 
 abbrev pub zeroIf : Bool → List Bool
 zeroIf true = false ∷ []

@@ -5,4 +5,3 @@ pub mod Check
 pub mod Insertion
 pub mod Frame
 pub mod Line
-pub mod Mirror

@@ -3,6 +3,4 @@ pub mod Check
 pub mod Insertion
 pub mod Frame
 pub mod Line
-pub mod Pen
-pub mod Mirror
 pub mod Laws

@@ -2,28 +2,24 @@
 use mathlib.Core.Path.{_≡_}
 use mathlib.Core.Bool.{true, not}
 use mathlib.Core.List.{List, [], _∷_, _++_, foldl}
-use Prim.Native.Nat.{ℕ, zero, suc, _+_, _-_, _*_, _/_, _%_, _≤_}
-use lib.Dec.{eqb, ltb, leb}
-use lib.ListN.{length, getD, take, drop}
+use Prim.Native.Nat.{ℕ, zero, suc, _+_, _/_, _%_}
+use lib.Dec.{eqb, ltb}
+use lib.ListN.{length, getD}
 use Rattle.common.specs.Choice.{if_then_else_}
 use Rattle.common.specs.declared.Refusal.{Refusal}
-use Rattle.common.specs.declared.Refusal.the-variants.{NoList, NoteLength, CutList, LongList}
+use Rattle.common.specs.declared.Refusal.the-variants.{NoList, LongList}
 use Rattle.line.specs.Line.{noteFits}
-use Rattle.notes.specs.declared.Head.{Head}
-use Rattle.notes.specs.declared.Head.the-variants.{End, Note, Bad}
+use Rattle.head.specs.declared.Head.{Head}
+use Rattle.head.specs.declared.Head.the-variants.{End, Note, Bad}
+use Rattle.head.specs.NoteHead.{lengthBytes, textAt, headOf}
 use Rattle.notes.specs.declared.Scanned.{Scanned}
 use Rattle.notes.specs.declared.Scanned.the-variants.{Notes, Refused}
+
+-- A list of notes
 
 -- 01: "A list is version byte 1, then notes: two-byte big-endian length, text."
 abbrev pub version : ℕ
 version = 1
-
--- the place of the first note, and the size of a length
-abbrev pub firstNote : ℕ
-firstNote = 1
-
-abbrev pub lengthBytes : ℕ
-lengthBytes = 2
 
 -- the list of these notes, and its bytes after the version byte
 unfoldable pub notesBytes : List (List ℕ) → List ℕ
@@ -33,38 +29,14 @@ notesBytes (note ∷ notes) = length note / 256 ∷ (length note % 256 ∷ (note
 abbrev pub listOf : List (List ℕ) → List ℕ
 listOf notes = version ∷ notesBytes notes
 
--- the length and the text of a note that begins at place i
-abbrev pub lengthAt : List ℕ → ℕ → ℕ
-lengthAt list i = getD list i 0 * 256 + getD list (i + 1) 0
+-- each of these notes may stand in a list
+pub data AllFit : List (List ℕ) → Type 0 where
+  fits-none : AllFit []
+  fits-more : {note : List ℕ} {notes : List (List ℕ)} → noteFits (length note) ≡ true
+      → AllFit notes → AllFit (note ∷ notes)
 
-abbrev pub textAt : List ℕ → ℕ → ℕ → List ℕ
-textAt list i k = take k (drop (i + lengthBytes) list)
+-- Reading a list: all its notes, or one refusal
 
--- 01, Events: "note by note 7 for a cut length, 6, 7 for a cut note"
-unfoldable pub headOf : List ℕ → ℕ → Head
-headOf list i =
-    if leb (length list) i then End
-    else (if ltb (length list - i) lengthBytes then Bad CutList
-    else (if not (noteFits (lengthAt list i)) then Bad NoteLength
-    else (if ltb (length list - i - lengthBytes) (lengthAt list i) then Bad CutList
-    else Note (lengthAt list i))))
-
--- a note that stands at place i of l bytes fits, and lies within them
-abbrev pub Within : ℕ → ℕ → Head → Type 0
-Within l i End = Unit
-Within l i (Note k) = (noteFits k ≡ true) × (i + lengthBytes + k ≤ l)
-Within l i (Bad k) = Unit
-
--- the text of the note at place i, nothing where no note stands
-abbrev pub textOf : List ℕ → ℕ → Head → List ℕ
-textOf list i End = []
-textOf list i (Note k) = textAt list i k
-textOf list i (Bad k) = []
-
-abbrev pub noteAt : List ℕ → ℕ → List ℕ
-noteAt list i = textOf list i (headOf list i)
-
--- a list read: all its notes, or one refusal
 pub data Reading : Type 0 where
   whole : List (List ℕ) → Reading
   refuses : Refusal → Reading
@@ -82,11 +54,16 @@ readHead list i (Bad k) rest = refuses k
 -- at most so many notes, from place i on
 unfoldable pub readFrom : ℕ → List ℕ → ℕ → Reading
 readFrom zero list i = whole []
-readFrom (suc most) list i = readHead list i (headOf list i) (λ k. readFrom most list (i + lengthBytes + k))
+readFrom (suc most) list i =
+    readHead list i (headOf list i) (λ k. readFrom most list (i + lengthBytes + k))
 
 -- all notes from place i on: a list has fewer notes than bytes
 unfoldable pub restFrom : List ℕ → ℕ → Reading
 restFrom list i = readFrom (length list) list i
+
+-- the place of the first note
+abbrev pub firstNote : ℕ
+firstNote = 1
 
 -- 01, refusal 9: "list longer than 65,535 bytes"
 abbrev pub longestList : ℕ

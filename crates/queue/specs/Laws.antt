@@ -1,4 +1,4 @@
--- Laws of the queue: what only queues with a history have, and which entries a queue holds. Assumes nothing.
+-- Laws of the queue: what a history keeps, and which entries a queue holds. Assumes nothing.
 use mathlib.Core.Path.{_≡_, refl}
 use mathlib.Core.Bool.{Bool, true, false}
 use mathlib.Core.List.{List, [], _∷_, _++_}
@@ -7,15 +7,14 @@ use native.Mathlib.Omega.{arith}
 use lib.Dec.{eqb, ltb}
 use lib.ListN.{length, length-set}
 use borrow.Author.Tests.{ltb-true}
-use Rattle.common.specs.Choice.{if_then_else_}
 use Rattle.common.specs.Tools.{by-test, if-elim, void}
-use Rattle.queue.specs.Entry.{Entry, plainEntry}
-use Rattle.queue.specs.Queue.{Queue, queue, empty, room, pushed, taken, oldest, waits, errorReset, rr1Of, rr1}
+use Rattle.entry.specs.declared.Entry.{Entry}
+use Rattle.entry.specs.Entry.{rr1Of}
+use Rattle.queue.specs.Queue.{Queue, queue, empty, room, pushed, taken, oldest, waits}
+use Rattle.queue.specs.Queue.{errorReset, rr1}
+use Rattle.queue.specs.Holding.{SoundQueue, Plain, plain, Holds, h0, h1, h2, h3, entryIf}
 
--- what only a queue with a history has: three entries, and no more of them wait
-pub record SoundQueue (q : Queue) : Type 0 where
-  pub whole : length (q .entries) ≡ room
-  pub within : q .count ≤ room
+-- What a history keeps
 
 pub empty-sound : SoundQueue empty
 empty-sound = record { whole = refl; within = omega arith }
@@ -26,51 +25,45 @@ push-sound q e s =
     by-test SoundQueue (eqb (q .count) 0)
     (λ t. record { whole = simp length-set (s .whole); within = omega arith })
     (λ t. by-test SoundQueue (ltb (q .count) room)
-    (λ l. record { whole = simp length-set (s .whole); within = omega (arith, ltb-true (q .count) room l) })
+    (λ l.
+    let more = ltb-true (q .count) room l in
+    record { whole = simp length-set (s .whole); within = omega arith })
     (λ l. record { whole = simp length-set (s .whole); within = s .within }))
 
 pub take-sound : (q : Queue) → SoundQueue q → SoundQueue (taken q)
 unfolding taken
 take-sound q s =
     if-elim SoundQueue (eqb (q .count) 0) s
-    (if-elim SoundQueue (eqb (q .count) 1) (record { whole = refl; within = omega arith }) (record { whole = refl; within = omega (arith, s .within) }))
+    (if-elim SoundQueue (eqb (q .count) 1)
+    (record { whole = refl; within = omega arith })
+    (record { whole = refl; within = omega (arith, s .within) }))
 
 pub error-reset-sound : (q : Queue) → SoundQueue q → SoundQueue (errorReset q)
 error-reset-sound q s = record { whole = s .whole; within = s .within }
 
--- no mark but, at a frame's end, the end mark and a bad check
-pub data Plain : Entry → Type 0 where
-  plain : {v : ℕ} {e b : Bool} → Plain (plainEntry v e b)
+-- Which entries a queue holds
 
--- a queue with latches p and o that holds just these plain entries, oldest first
-pub data Holds (p o : Bool) : Queue → List Entry → Type 0 where
-  h0 : {a b c : Entry} → Holds p o (queue (a ∷ b ∷ c ∷ []) 0 p o) []
-  h1 : {a b c : Entry} → Plain a → Holds p o (queue (a ∷ b ∷ c ∷ []) 1 p o) (a ∷ [])
-  h2 : {a b c : Entry} → Plain a → Plain b → Holds p o (queue (a ∷ b ∷ c ∷ []) 2 p o) (a ∷ b ∷ [])
-  h3 : {a b c : Entry} → Plain a → Plain b → Plain c → Holds p o (queue (a ∷ b ∷ c ∷ []) 3 p o) (a ∷ b ∷ c ∷ [])
-
-pub push-holds : {p o : Bool} {q : Queue} {es : List Entry} {e : Entry} → Holds p o q es → ltb (q .count) room ≡ true → Plain e → Holds p o (pushed q e) (es ++ (e ∷ []))
+pub push-holds : {p o : Bool} {q : Queue} {es : List Entry} {e : Entry} → Holds p o q es
+    → ltb (q .count) room ≡ true → Plain e → Holds p o (pushed q e) (es ++ (e ∷ []))
 unfolding pushed
 push-holds h0 l plain = h1 plain
 push-holds (h1 a) l e = h2 a e
 push-holds (h2 a b) l e = h3 a b e
 push-holds (h3 a b c) l e = void l
 
-pub take-holds : {p o : Bool} {q : Queue} {e : Entry} {es : List Entry} → Holds p o q (e ∷ es) → Holds p o (taken q) es
+pub take-holds : {p o : Bool} {q : Queue} {e : Entry} {es : List Entry} → Holds p o q (e ∷ es)
+    → Holds p o (taken q) es
 unfolding taken
 take-holds (h1 a) = h0
 take-holds (h2 a plain) = h1 plain
 take-holds (h3 a plain c) = h2 plain c
 
-pub oldest-holds : {p o : Bool} {q : Queue} {e : Entry} {es : List Entry} → Holds p o q (e ∷ es) → oldest q ≡ e
+pub oldest-holds : {p o : Bool} {q : Queue} {e : Entry} {es : List Entry} → Holds p o q (e ∷ es)
+    → oldest q ≡ e
 unfolding oldest
 oldest-holds (h1 a) = refl
 oldest-holds (h2 a b) = refl
 oldest-holds (h3 a b c) = refl
-
-abbrev pub entryIf : Bool → Entry → List Entry
-entryIf true e = e ∷ []
-entryIf false e = []
 
 -- a data read takes the oldest, if there is one
 pub record Took (p o : Bool) (q : Queue) (es : List Entry) : Type 0 where
@@ -82,11 +75,14 @@ pub read-holds : {p o : Bool} {q : Queue} {es : List Entry} → Holds p o q es �
 unfolding taken oldest
 read-holds h0 = record { rest = []; holds = h0; split = refl }
 read-holds (h1 a) = record { rest = []; holds = take-holds (h1 a); split = refl }
-read-holds (h2 {b = b} a k) = record { rest = b ∷ []; holds = take-holds (h2 a k); split = refl }
-read-holds (h3 {b = b} {c = c} a k l) = record { rest = b ∷ c ∷ []; holds = take-holds (h3 a k l); split = refl }
+read-holds (h2 {b = b} a k) =
+    record { rest = b ∷ []; holds = take-holds (h2 a k); split = refl }
+read-holds (h3 {b = b} {c = c} a k l) =
+    record { rest = b ∷ c ∷ []; holds = take-holds (h3 a k l); split = refl }
 
 -- nothing waits in a sound queue whose count is 0
-pub three-empty : (es : List Entry) (n : ℕ) (p o : Bool) → length es ≡ room → n ≡ 0 → Holds p o (queue es n p o) []
+pub three-empty : (es : List Entry) (n : ℕ) (p o : Bool) → length es ≡ room → n ≡ 0
+    → Holds p o (queue es n p o) []
 three-empty [] n p o l e = absurd (omega arith)
 three-empty (a ∷ []) n p o l e = absurd (omega arith)
 three-empty (a ∷ b ∷ []) n p o l e = absurd (omega arith)
@@ -94,13 +90,15 @@ three-empty (a ∷ b ∷ c ∷ []) n p o l e = rw e h0
 three-empty (a ∷ b ∷ c ∷ d ∷ es) n p o l e = absurd (omega arith)
 
 -- the latches are as they were, and RR1 shows the oldest
-pub latches-holds : {p o : Bool} {q : Queue} {es : List Entry} → Holds p o q es → (q .parity ≡ p) × (q .overrun ≡ o)
+pub latches-holds : {p o : Bool} {q : Queue} {es : List Entry} → Holds p o q es
+    → (q .parity ≡ p) × (q .overrun ≡ o)
 latches-holds h0 = (refl, refl)
 latches-holds (h1 a) = (refl, refl)
 latches-holds (h2 a b) = (refl, refl)
 latches-holds (h3 a b c) = (refl, refl)
 
-pub rr1-holds : {p o : Bool} {q : Queue} {e : Entry} {es : List Entry} (sent : Bool) → Holds p o q (e ∷ es) → rr1 q sent ≡ rr1Of e sent p o
+pub rr1-holds : {p o : Bool} {q : Queue} {e : Entry} {es : List Entry} (sent : Bool)
+    → Holds p o q (e ∷ es) → rr1 q sent ≡ rr1Of e sent p o
 unfolding rr1 oldest
 rr1-holds sent (h1 a) = refl
 rr1-holds sent (h2 a b) = refl

@@ -1,3 +1,3 @@
-pub mod Entry
 pub mod Queue
+pub mod Holding
 pub mod Laws

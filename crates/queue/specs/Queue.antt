@@ -1,14 +1,15 @@
--- The receive queue and the bits of RR1 that it decides: 01, Registers (RR1), Receiving (the queue) and Interrupts (special).
--- Every queue is accepted, also one whose count no history made. Assumes nothing.
-use mathlib.Core.Bool.{Bool, true, false, not, _&&_, _||_}
+-- The receive queue and the bits of RR1 that it decides: 01, Registers (RR1), Receiving (the queue)
+-- and Interrupts (special). Every queue is accepted, also one whose count no history made. Assumes
+-- nothing.
+use mathlib.Core.Bool.{Bool, true, false, not, _||_}
 use mathlib.Core.List.{List, [], _∷_}
 use Prim.Native.Nat.{ℕ, _+_, _-_}
 use lib.Dec.{eqb, ltb}
 use lib.ListN.{set, getD}
-use Rattle.common.specs.Bit.{placed}
 use Rattle.common.specs.Choice.{if_then_else_}
 pub use Rattle.queue.specs.declared.Queue.{Queue}
-use Rattle.queue.specs.Entry.{Entry, none, overran}
+use Rattle.entry.specs.declared.Entry.{Entry}
+use Rattle.entry.specs.Entry.{noEntry, overran, rr1Of, specialOf}
 
 -- 01, Receiving: "The queue has three entries": there is room for these, and the newest stands last
 abbrev pub room : ℕ
@@ -22,9 +23,10 @@ queue es n p o = record { entries = es; count = n; parity = p; overrun = o }
 
 -- 01, Registers: a channel reset "empties buffer and queue" and "clears .. RR1 D4 and D5"
 abbrev pub empty : Queue
-empty = queue (none ∷ none ∷ none ∷ []) 0 false false
+empty = queue (noEntry ∷ noEntry ∷ noEntry ∷ []) 0 false false
 
--- "D4 and D5 are latched when an entry so marked becomes the oldest, until Error Reset": e becomes the oldest
+-- "D4 and D5 are latched when an entry so marked becomes the oldest, until Error Reset": e becomes the
+-- oldest
 abbrev pub latching : Queue → List Entry → ℕ → Entry → Queue
 latching q es n e = queue es n (e .parity || q .parity) (e .overrun || q .overrun)
 
@@ -40,19 +42,19 @@ pushed q e =
     else keeping q (set (q .entries) newest (overran e)) (q .count))
 
 -- the entries, each moved up by one
-abbrev pub moved : List Entry → List Entry
-moved es = getD es 1 none ∷ getD es 2 none ∷ none ∷ []
+abbrev pub movedUp : List Entry → List Entry
+movedUp es = getD es 1 noEntry ∷ getD es 2 noEntry ∷ noEntry ∷ []
 
 -- 01, Receiving: "A data read takes the oldest ..; with none waiting it .. changes nothing"
 unfoldable pub taken : Queue → Queue
 taken q =
     if eqb (q .count) 0 then q
-    else (if eqb (q .count) 1 then keeping q (moved (q .entries)) 0
-    else latching q (moved (q .entries)) (q .count - 1) (getD (q .entries) 1 none))
+    else (if eqb (q .count) 1 then keeping q (movedUp (q .entries)) 0
+    else latching q (movedUp (q .entries)) (q .count - 1) (getD (q .entries) 1 noEntry))
 
 -- the oldest entry, or one with nothing in it: "with none waiting it gives 0"
 unfoldable pub oldest : Queue → Entry
-oldest q = if eqb (q .count) 0 then none else getD (q .entries) 0 none
+oldest q = if eqb (q .count) 0 then noEntry else getD (q .entries) 0 noEntry
 
 -- 01, Registers: RR0 "D0 character waits"
 abbrev pub waits : Queue → Bool
@@ -62,16 +64,10 @@ waits q = not (eqb (q .count) 0)
 abbrev pub errorReset : Queue → Queue
 errorReset q = queue (q .entries) (q .count) false false
 
--- 01, Registers: "RR1: D0 all sent ..; D3-1 binary 011 if the oldest entry ends a frame, else 000; D4 parity, D5 overrun;
--- D6 framing error or, at a frame's end, a bad check; D7 frame end. D6 and D7 are the oldest entry's"
-abbrev pub rr1Of : Entry → Bool → Bool → Bool → ℕ
-rr1Of e sent p o =
-    placed sent 0b1 + placed (e .ends) 0b110 + placed p 0b10000 + placed o 0b100000
-    + placed (e .framing || (e .ends && e .bad)) 0b1000000 + placed (e .ends) 0b10000000
-
+-- 01, Registers: RR1, of the oldest entry and the latches
 unfoldable pub rr1 : Queue → Bool → ℕ
 rr1 q sent = rr1Of (oldest q) sent (q .parity) (q .overrun)
 
--- 01, Interrupts: "if the oldest entry is special: overrun, framing, frame end, parity in mode 2"
+-- 01, Interrupts: "if the oldest entry is special"
 unfoldable pub special : Queue → Bool → Bool
-special q parity = let e = oldest q in e .overrun || (e .framing || (e .ends || (e .parity && parity)))
+special q parity = specialOf (oldest q) parity

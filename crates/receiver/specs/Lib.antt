@@ -1,6 +1,3 @@
-pub mod State
-pub mod Sdlc
-pub mod Asynchronous
 pub mod Receiver
-pub mod Within
+pub mod Sound
 pub mod Laws

@@ -1,51 +1,90 @@
--- 01, Receiving: a receive tick, and what the other events do to the receiver. Assumes nothing.
-use mathlib.Core.Bool.{Bool, true, false}
+-- 01, Receiving: one channel's receiver: what all modes share, which mode hears, off, and what the other
+-- events do to it. Every receiver is accepted, also one that no history made. Assumes nothing.
+use mathlib.Core.Bool.{Bool, true, false, _&&_}
+use Prim.Native.Nat.{ℕ}
 use Rattle.common.specs.Choice.{if_then_else_}
+use Rattle.common.specs.Mode.{inSdlc}
 use Rattle.common.specs.declared.Mode.{Mode}
 use Rattle.common.specs.declared.Mode.the-variants.{NoMode, Asynchronous, Sdlc}
 use Rattle.line.specs.Check.{ones}
-use Rattle.receiver.specs.State.{Receiving, Receiver, Heard, chars, noChars, freshChars, emptyDelay, content, noCharacter, receiver, following, silent}
-use Rattle.receiver.specs.Sdlc.{one, zeroBit}
-use Rattle.receiver.specs.Asynchronous.{asynchronous}
+use Rattle.entry.specs.Entry.{noEntry}
+use Rattle.entry.specs.declared.Entry.{Entry}
+use Rattle.asynchronous.specs.declared.Assembly.{Assembly}
+use Rattle.asynchronous.specs.declared.Assembled.{Assembled}
+use Rattle.asynchronous.specs.Hearing.{noAssembly, hearCharacter}
+use Rattle.sdlc.specs.declared.Content.{Content}
+use Rattle.sdlc.specs.declared.Listener.{Listener}
+use Rattle.sdlc.specs.declared.Listened.{Listened}
+use Rattle.sdlc.specs.Hearing.{contentAt, heardSo, hearSdlc}
+use Rattle.receiver.specs.declared.Receiving.{Receiving}
+use Rattle.receiver.specs.declared.Receiver.{Receiver}
+use Rattle.receiver.specs.declared.Heard.{Heard}
+
+-- The parts of a receiver
+
+abbrev pub receiver : Content → Assembly → ℕ → Bool → Receiver
+receiver c a k x = record { content = c; assembly = a; check = k; broken = x }
+
+-- SDLC's part, and that part put back
+abbrev pub listenerOf : Receiver → Listener
+listenerOf s = heardSo (s .content) (s .check) (s .broken)
+
+abbrev pub listenerIn : Receiver → Listener → Receiver
+listenerIn s l = receiver (l .content) (s .assembly) (l .check) (l .broken)
+
+-- what a tick gives: the receiver, and an entry for the queue or none
+abbrev pub heard : Receiver → Bool → Entry → Heard
+heard s t e = record { receiver = s; some = t; entry = e }
+
+abbrev pub silent : Receiver → Heard
+silent s = heard s false noEntry
+
+abbrev pub byListener : Receiver → Listened → Heard
+byListener s h = heard (listenerIn s (h .listener)) (h .some) (h .entry)
+
+abbrev pub byAssembly : Receiver → Assembled → Heard
+byAssembly s h =
+    heard (receiver (s .content) (h .assembly) (s .check) (h .broken)) (h .some) (h .entry)
+
+-- Other events
 
 -- 01, Registers: a channel reset "leaves no mode, .. clears D7 .., presets both checks to ones"
 abbrev pub reset : Receiver
-reset = receiver (content false false 0 emptyDelay freshChars) noCharacter false false
+reset = receiver (contentAt false false 0) (noAssembly false) ones false
 
--- "drops the unfinished part, a wait for a 1 and the count of ones and, in SDLC, starts hunt"; hunt is h and D7 x from now on.
--- The check, which only a flag, its command and a reset preset, stays
+-- "drops the unfinished part, a wait for a 1 and the count of ones and, in SDLC, starts hunt"; hunt is h
+-- and D7 x from now on. The check, which only a flag, its command and a reset preset, stays
 abbrev pub dropped : Receiver → Bool → Bool → Receiver
-dropped s h x = receiver (content h false 0 emptyDelay (noChars (s .content .chars .check))) noCharacter false x
+dropped s h x = receiver (contentAt h false 0) (noAssembly false) (s .check) x
 
 -- "in SDLC a WR3 write with D4 set": D7 stays
 abbrev pub enterHunt : Receiver → Receiver
 enterHunt s = dropped s true (s .broken)
 
--- 01, Registers: "An accepted WR4 that changes the mode .. clears D7, drops the half-received character and frame, and starts hunt in SDLC"
+-- 01, Registers: "An accepted WR4 that changes the mode .. clears D7, drops the half-received character
+-- and frame, and starts hunt in SDLC"
 abbrev pub modeChanged : Receiver → Bool → Receiver
 modeChanged s sdlc = dropped s sdlc false
 
 -- 01, Registers: WR0, "D7-6: 1 preset Rx check"
 abbrev pub presetCheck : Receiver → Receiver
-presetCheck s =
-    let c = s .content in
-    let k = c .chars in
-    following s (content (c .hunt) (c .skip) (c .ones) (c .delay) (chars (k .count) (k .part) (k .have) (k .held) ones)) (s .broken)
+presetCheck s = receiver (s .content) (s .assembly) ones (s .broken)
 
 -- 01, Registers: RR0, "D4 hunt (SDLC; else 0)"
-abbrev pub huntingIn : Mode → Receiver → Bool
-huntingIn NoMode s = false
-huntingIn Asynchronous s = false
-huntingIn Sdlc s = s .content .hunt
-
 abbrev pub hunting : Receiving → Receiver → Bool
-hunting g s = huntingIn (g .mode) s
+hunting g s = inSdlc (g .mode) && s .content .hunt
 
--- a receive tick. "With no mode, ticks .. receive nothing"; "A tick while off clears D7, and it .. drops the unfinished part"
+-- A receive tick. "With no mode, ticks .. receive nothing"; "A tick while off clears D7, and it .. drops
+-- the unfinished part"
+
 abbrev pub hearIn : Mode → Receiving → Receiver → Bool → Heard
 hearIn NoMode g s b = silent s
-hearIn Asynchronous g s b = if g .on then asynchronous g s b else silent (dropped s false false)
-hearIn Sdlc g s b = if g .on then (if b then one g s else zeroBit g s) else silent (dropped s true false)
+hearIn Asynchronous g s b =
+    if g .on then byAssembly s (hearCharacter (g .format) (s .assembly) (s .broken) b)
+    else silent (dropped s false false)
+hearIn Sdlc g s b =
+    if g .on then byListener s (hearSdlc (g .addressing) (listenerOf s) b)
+    else silent (dropped s true false)
 
 unfoldable pub hear : Receiving → Receiver → Bool → Heard
 hear g s b = hearIn (g .mode) g s b

@@ -1,64 +1,32 @@
-// The receiver of one channel, SDLC and asynchronous, a bit at a time. It knows no register: it is handed its settings. Assumes nothing.
-mod asynchronous;
-mod sdlc;
-mod within;
-
+// 01, Receiving: one channel's receiver: which mode hears, off, RR0 D7, and what is handed to the queue. Settings come decoded. Assumes nothing.
+use asynchronous::Assembled;
+use asynchronous::Assembly;
+use asynchronous::Format;
 use common::Mode;
+use common::in_sdlc;
+use entry::Entry;
 use line::ONES;
-use queue::Entry;
+use sdlc::Addressing;
+use sdlc::Content;
+use sdlc::Listened;
+use sdlc::Listener;
 ghost use mathlib.Core.Path.{_≡_};
-ghost use Prim.Native.Nat.{_≤_};
-ghost use Rattle.line.specs.Bits.{oneIf};
-ghost use Rattle.receiver.specs.State.{noChars, noCharacter, following, silent};
+ghost use Rattle.receiver.specs.Receiver.{listenerOf, listenerIn, byListener, byAssembly, silent};
 ghost use Rattle.receiver.specs.Receiver.{reset, dropped, enterHunt, modeChanged, presetCheck, hunting, hear};
 
-// A channel's settings as a tick finds them. on: WR3 D0 and, with auto enables, DCD. length: five to eight, anything else is eight.
+// A channel's settings as a tick finds them. on: WR3 D0 and, with auto enables, DCD.
 pub struct Receiving {
     pub mode: Mode,
     pub on: bool,
-    pub search: bool,
-    pub address: u8,
-    pub length: u8,
-    pub parity: bool,
-    pub even: bool,
+    pub addressing: Addressing,
+    pub format: Format,
 }
 
-// Behind the delay: count bits of a character in part; a whole one held, if have; the check.
-pub struct Chars {
-    pub count: u8,
-    pub part: u8,
-    pub have: bool,
-    pub held: u8,
-    pub check: u16,
-}
-
-// What lies between two flags. hunt: no flag has come yet; skip: the frame is dropped until a flag; ones in a row on the line;
-// the bits in the delay under a leading one.
-pub struct Content {
-    pub hunt: bool,
-    pub skip: bool,
-    pub ones: u8,
-    pub delay: u8,
-    pub chars: Chars,
-}
-
-// An asynchronous character: left bits are still to come, its stop bit among them (0: none is under way); the byte so far, with ones
-// where no bit has come; the weight of the next bit; whether the ones are odd in number, and whether there is none; parity as set at its start.
-pub struct Assembly {
-    pub left: u8,
-    pub bits: u8,
-    pub weight: u8,
-    pub odd: bool,
-    pub blank: bool,
-    pub parity: bool,
-    pub even: bool,
-}
-
-// wait: a 1 must come before the next start; broken: RR0 D7.
+// What SDLC has heard of a frame, the asynchronous character, and what all modes share: the check, and RR0 D7.
 pub struct Receiver {
     pub content: Content,
-    pub character: Assembly,
-    pub wait: bool,
+    pub assembly: Assembly,
+    pub check: u16,
     pub broken: bool,
 }
 
@@ -69,84 +37,78 @@ pub struct Heard {
     pub entry: Entry,
 }
 
-// An empty delay.
-const EMPTY: u8 = 1;
-
-fn bit(b: bool) -> u8
-    ensures { λ r. ⌜ r ≡ oneIf b ⌝ }
-    ensures { λ r. ⌜ r ≤ 1 ⌝ }
-{
-    if b { 1 } else { 0 }
-}
-
-impl Chars {
-    // No bit of a character and none held.
-    fn none(check: u16) -> Chars
-        ensures { λ r. ⌜ r ≡ noChars check ⌝ }
-    {
-        Chars {
-            count: 0,
-            part: 0,
-            have: false,
-            held: 0,
-            check,
-        }
-    }
-}
-
-impl Assembly {
-    // No character is under way.
-    fn none() -> Assembly
-        ensures { λ r. ⌜ r ≡ noCharacter ⌝ }
-    {
-        Assembly {
-            left: 0,
-            bits: 0,
-            weight: 0,
-            odd: false,
-            blank: false,
-            parity: false,
-            even: false,
-        }
-    }
-}
-
 impl Receiver {
     // A reset receiver.
     pub fn reset() -> Receiver
         ensures { λ r. ⌜ r ≡ reset ⌝ }
     {
-        let content = Content {
-            hunt: false,
-            skip: false,
-            ones: 0,
-            delay: EMPTY,
-            chars: Chars::none(ONES),
-        };
         Receiver {
-            content,
-            character: Assembly::none(),
-            wait: false,
+            content: Content::at(false, false, 0),
+            assembly: Assembly::none(false),
+            check: ONES,
             broken: false,
         }
     }
 
-    // The unfinished part, a wait for a 1 and the count of ones are dropped.
+    // SDLC's part of it.
+    pub fn listener(self) -> Listener
+        ensures { λ r. ⌜ r ≡ listenerOf self ⌝ }
+    {
+        let content = self.content;
+        Listener {
+            content,
+            check: self.check,
+            broken: self.broken,
+        }
+    }
+
+    // That part put back.
+    pub fn with_listener(self, l: Listener) -> Receiver
+        ensures { λ r. ⌜ r ≡ listenerIn self l ⌝ }
+    {
+        let content = l.content;
+        let mut s = self;
+        s.content = content;
+        s.check = l.check;
+        s.broken = l.broken;
+        s
+    }
+
+    // What the modes' ticks give, with the receiver put together again.
+    fn by_listener(self, h: Listened) -> Heard
+        ensures { λ r. ⌜ r ≡ byListener self h ⌝ }
+    {
+        let entry = h.entry;
+        Heard {
+            receiver: self.with_listener(h.listener),
+            some: h.some,
+            entry,
+        }
+    }
+
+    fn by_assembly(self, h: Assembled) -> Heard
+        ensures { λ r. ⌜ r ≡ byAssembly self h ⌝ }
+    {
+        let assembly = h.assembly;
+        let entry = h.entry;
+        let mut s = self;
+        s.assembly = assembly;
+        s.broken = h.broken;
+        Heard {
+            receiver: s,
+            some: h.some,
+            entry,
+        }
+    }
+
+    // The unfinished part, a wait for a 1 and the count of ones are dropped: every mode at rest.
     fn dropped(self, hunt: bool, broken: bool) -> Receiver
         ensures { λ r. ⌜ r ≡ dropped self hunt broken ⌝ }
     {
-        let was = self.content;
-        let content = Content {
-            hunt,
-            skip: false,
-            ones: 0,
-            delay: EMPTY,
-            chars: Chars::none(was.chars.check),
-        };
         Receiver {
-            content,
-            character: Assembly::none(),
-            wait: false,
+            content: Content::at(hunt, false, 0),
+            assembly: Assembly::none(false),
+            check: self.check,
             broken,
         }
     }
@@ -166,14 +128,11 @@ impl Receiver {
     }
 
     // The check is preset at once; bits in the delay are counted after it.
-    pub fn preset_check(self) -> Receiver
+    pub fn preset_check(mut self) -> Receiver
         ensures { λ r. ⌜ r ≡ presetCheck self ⌝ }
     {
-        let mut content = self.content;
-        let mut chars = content.chars;
-        chars.check = ONES;
-        content.chars = chars;
-        self.following(content, self.broken)
+        self.check = ONES;
+        self
     }
 
     // RR0 D4.
@@ -181,21 +140,7 @@ impl Receiver {
         ensures { λ r. ⌜ r ≡ hunting g self ⌝ }
     {
         let mode = g.mode;
-        match mode {
-            Mode::NoMode => false,
-            Mode::Asynchronous => false,
-            Mode::Sdlc => self.content.hunt,
-        }
-    }
-
-    // SDLC changes the content and D7 alone.
-    fn following(self, content: Content, broken: bool) -> Receiver
-        ensures { λ r. ⌜ r ≡ following self content broken ⌝ }
-    {
-        let mut s = self;
-        s.content = content;
-        s.broken = broken;
-        s
+        in_sdlc(mode) & self.content.hunt
     }
 
     // A tick that hands nothing over.
@@ -218,20 +163,15 @@ impl Receiver {
             Mode::NoMode => self.silent(),
             Mode::Asynchronous => {
                 if g.on {
-                    return self.asynchronous(g, bit);
+                    return self.by_assembly(self.assembly.hear(g.format, self.broken, bit));
                 }
-                let s = self.dropped(false, false);
-                s.silent()
+                self.dropped(false, false).silent()
             }
             Mode::Sdlc => {
                 if g.on {
-                    if bit {
-                        return self.one(g);
-                    }
-                    return self.zero_bit(g);
+                    return self.by_listener(listening::hear(self.listener(), g.addressing, bit));
                 }
-                let s = self.dropped(true, false);
-                s.silent()
+                self.dropped(true, false).silent()
             }
         }
     }

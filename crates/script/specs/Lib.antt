@@ -1,4 +1,2 @@
 pub mod Step
-pub mod Words
-pub mod Script
-pub mod Tally
+pub mod Shown

@@ -1,29 +1,22 @@
--- 01, Events: each of the ten events by a code, with its refusal's number, the value that it gives, and the chip after it. Assumes nothing.
+-- 01, Events: each of the ten events by a code, as one call that answers and gives back the chip.
+-- Assumes nothing.
+use mathlib.Core.Bool.{_&&_}
 use Prim.Native.Nat.{ℕ}
-use lib.Dec.{eqb}
+use lib.Dec.{eqb, leb}
 use Rattle.common.specs.Choice.{if_then_else_}
-use Rattle.channel.specs.Answer.{answerNumber, answerValue}
+use Rattle.common.specs.declared.Refusal.the-variants as refusal
+use Rattle.channel.specs.declared.Answer.{Answer}
+use Rattle.channel.specs.declared.Answer.the-variants.{Done, Gave, Refused}
 use Rattle.chip.specs.declared.Chip.{Chip}
 use Rattle.chip.specs.declared.Outcome.{Outcome}
+use Rattle.vector.specs.declared.Acked.{Acked}
+use Rattle.vector.specs.declared.Acked.the-variants.{Vector, NothingWaits}
 use Rattle.chip.specs.declared.Acknowledged.{Acknowledged}
 use Rattle.chip.specs.Interrupts.{acknowledge, reti}
-use Rattle.chip.specs.Chip.{hardReset, controlWrite, controlReadCall, dataWriteCall, dataReadCall, transmitCall, receiveCall, linesCall, ackedNumber, ackedValue}
-use Rattle.script.specs.declared.Done.{Done}
+use Rattle.chip.specs.Chip.{hardReset, controlWrite, controlReadCall, dataWriteCall, dataReadCall}
+use Rattle.chip.specs.Chip.{transmitCall, receiveCall, linesCall}
 
-abbrev pub done : ℕ → ℕ → Chip → Done
-done n v c = record { number = n; value = v; chip = c }
-
--- no event of these is refused, and they give nothing
-abbrev pub plain : Chip → Done
-plain c = done 0 0 c
-
-abbrev pub answered : Outcome → Done
-answered o = done (answerNumber (o .answer)) (answerValue (o .answer)) (o .chip)
-
-abbrev pub acknowledged : Acknowledged → Done
-acknowledged o = done (ackedNumber (o .acked)) (ackedValue (o .acked)) (o .chip)
-
--- the code of each event, in the order of the sentence below
+-- the code of each event, in the order of the sentence below; RETI's is 9
 abbrev pub resetEvent : ℕ
 resetEvent = 0
 
@@ -51,20 +44,36 @@ linesEvent = 7
 abbrev pub acknowledgeEvent : ℕ
 acknowledgeEvent = 8
 
-abbrev pub retiEvent : ℕ
-retiEvent = 9
+-- "Hard reset; control write, control read, data write, data read; transmit tick (gives one line
+-- bit); receive tick (takes one); set DCD and CTS; acknowledge; RETI." Those that name a channel:
+unfoldable pub named : Chip → ℕ → ℕ → ℕ → ℕ → Outcome
+named c code x y z =
+    if eqb code controlWriteEvent then controlWrite c x y
+    else (if eqb code controlReadEvent then controlReadCall c x
+    else (if eqb code dataWriteEvent then dataWriteCall c x y
+    else (if eqb code dataReadEvent then dataReadCall c x
+    else (if eqb code transmitEvent then transmitCall c x
+    else (if eqb code receiveEvent then receiveCall c x y
+    else linesCall c x y z)))))
 
--- "Hard reset; control write, control read, data write, data read; transmit tick (gives one line bit); receive tick (takes one); set DCD and
--- CTS; acknowledge; RETI."
-unfoldable pub step : Chip → ℕ → ℕ → ℕ → ℕ → Done
-step c code x y z =
+-- a hard reset and a RETI are never refused and give nothing
+abbrev pub plain : Chip → Outcome
+plain c = record { answer = Done; chip = c }
+
+-- "An acknowledge answers with a vector byte or with the refusal that nothing waits."
+abbrev pub answerOf : Acked → Answer
+answerOf (Vector v) = Gave v
+answerOf NothingWaits = Refused refusal.NothingWaits
+
+abbrev pub acknowledged : Acknowledged → Outcome
+acknowledged o = record { answer = answerOf (o .acked); chip = o .chip }
+
+unfoldable pub unnamed : Chip → ℕ → Outcome
+unnamed c code =
     if eqb code resetEvent then plain hardReset
-    else (if eqb code controlWriteEvent then answered (controlWrite c x y)
-    else (if eqb code controlReadEvent then answered (controlReadCall c x)
-    else (if eqb code dataWriteEvent then answered (dataWriteCall c x y)
-    else (if eqb code dataReadEvent then answered (dataReadCall c x)
-    else (if eqb code transmitEvent then answered (transmitCall c x)
-    else (if eqb code receiveEvent then answered (receiveCall c x y)
-    else (if eqb code linesEvent then answered (linesCall c x y z)
     else (if eqb code acknowledgeEvent then acknowledged (acknowledge c)
-    else plain (reti c)))))))))
+    else plain (reti c))
+
+unfoldable pub step : Chip → ℕ → ℕ → ℕ → ℕ → Outcome
+step c code x y z =
+    if leb controlWriteEvent code && leb code linesEvent then named c code x y z else unnamed c code

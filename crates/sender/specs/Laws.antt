@@ -1,5 +1,3 @@
--- The sender's laws, a file for each idea, in the order of the definitions.
-pub mod Character
+-- Laws of a channel's sender: its tick in each mode, and what a history keeps. Assumes nothing.
 pub mod Tick
-pub mod Within
 pub mod Sound

@@ -1,5 +1,4 @@
-pub mod Character
 pub mod Sender
-pub mod Within
+pub mod Good
 pub mod Sound
 pub mod Laws

@@ -1,58 +1,35 @@
-// 01, Sending: one channel's sender. Settings come decoded; a tick gives a line bit. Assumes nothing.
-mod character;
-mod unit;
-mod within;
-
+// 01, Sending: one channel's sender. What all modes share stands here once; the mode says which of them ticks. Assumes nothing.
+use asynchronous::Character;
+use asynchronous::Typed;
+use asynchronous::Typing;
 use common::Mode;
 use common::in_sdlc;
+use line::Insertion;
 use line::ONES;
+use sdlc::Framed;
+use sdlc::Framer;
+use sdlc::Framing;
+use sdlc::LineUnit;
+use sdlc::not_counted;
+use shared::Shared;
 ghost use mathlib.Core.Path.{_≡_};
-ghost use Prim.Native.Nat.{_%_};
-ghost use Rattle.sender.specs.Sender.{tickSdlc, idling, tickAsynchronous, withBreak, tick};
-ghost use Rattle.sender.specs.Sender.{written, cutShort, aborted, checkPreset, latchCleared, idled, atReset, allSent, bufferReady};
+ghost use Rattle.sender.specs.Sender.{framerOf, framerIn, byFramer, byTypist, withBreak, tick};
+ghost use Rattle.sender.specs.Sender.{withShared, written, aborted, checkPreset, latchCleared, idled, atReset, allSent, bufferReady};
 
-// What is on the line. The first number: bits still to be sent; the second: what is left to shift out.
-pub enum LineUnit {
-    Mark,
-    Flag(u8),
-    Byte(u8, u8),
-    Check(u8, u16),
-    Abort(u8),
-    // the asynchronous character, behind its start bit
-    Character(u8, u16),
-}
-
-// A sender without its unit.
-pub struct Core {
-    // ones in a row, in byte and check bits
-    pub run: u8,
-    // a zero is to be inserted
-    pub owed: bool,
-    pub buffer: u8,
-    pub full: bool,
-    // Underrun/EOM, RR0 D6
-    pub latch: bool,
-    pub check: u16,
-}
-
+// SDLC's unit and zero insertion, the asynchronous character, and what all modes share.
 pub struct Sender {
     pub unit: LineUnit,
-    pub core: Core,
+    pub insertion: Insertion,
+    pub character: Character,
+    pub shared: Shared,
 }
 
-// What the registers and CTS say of sending.
+// What registers and CTS say of sending. broken: WR5 D4.
 pub struct Sending {
     pub mode: Mode,
-    // WR5 D3 and, with auto enables, CTS
-    pub on: bool,
-    // WR5 D0: bytes enter the check, and it is sent
-    pub included: bool,
-    // WR5 D4
     pub broken: bool,
-    pub length: u8,
-    pub parity: bool,
-    pub even: bool,
-    pub stops: u8,
+    pub framing: Framing,
+    pub typing: Typing,
 }
 
 // What a tick gives; loaded: a byte or a character left the buffer.
@@ -64,13 +41,12 @@ pub struct Ticked {
 
 impl Ticked {
     // A break sends 0 in place of the bit.
-    fn with_break(self, broken: bool) -> Ticked
+    fn with_break(mut self, broken: bool) -> Ticked
         ensures { λ r. ⌜ r ≡ withBreak broken self ⌝ }
     {
         if broken {
-            let mut t = self;
-            t.bit = false;
-            return t;
+            self.bit = false;
+            return self;
         }
         self
     }
@@ -83,78 +59,65 @@ impl Sender {
     {
         Sender {
             unit: LineUnit::Mark,
-            core: Core {
-                run: 0,
-                owed: false,
-                buffer: 0,
-                full: false,
-                latch: true,
-                check: ONES,
-            },
+            insertion: not_counted(),
+            character: Character::none(),
+            shared: Shared::reset(),
         }
     }
 
-    // A tick in SDLC.
-    fn tick_sdlc(self, g: Sending) -> Ticked
-        ensures { λ r. ⌜ r ≡ tickSdlc g self ⌝ }
+    // SDLC's part of it.
+    pub fn framer(self) -> Framer
+        ensures { λ r. ⌜ r ≡ framerOf self ⌝ }
     {
-        let u = self.unit;
-        let k = self.core;
-        if k.owed {
-            let mut paid = k;
-            paid.owed = false;
-            return Ticked {
-                bit: false,
-                loaded: false,
-                sender: Sender {
-                    unit: u,
-                    core: paid,
-                },
-            };
+        let unit = self.unit;
+        let insertion = self.insertion;
+        let shared = self.shared;
+        Framer {
+            unit,
+            insertion,
+            shared,
         }
-        k.going(g, u)
     }
 
-    // No character is under way: one is loaded if it may be.
-    fn idling(self, g: Sending) -> Ticked
-        ensures { λ r. ⌜ r ≡ idling g self ⌝ }
+    // That part put back.
+    pub fn with_framer(self, f: Framer) -> Sender
+        ensures { λ r. ⌜ r ≡ framerIn self f ⌝ }
     {
-        let k = self.core;
-        if g.on & k.full {
-            return k.start_character(g);
+        let unit = f.unit;
+        let insertion = f.insertion;
+        let character = self.character;
+        let shared = f.shared;
+        Sender {
+            unit,
+            insertion,
+            character,
+            shared,
         }
+    }
+
+    // What the modes' ticks give, with the sender put together again.
+    fn by_framer(self, t: Framed) -> Ticked
+        ensures { λ r. ⌜ r ≡ byFramer self t ⌝ }
+    {
         Ticked {
-            bit: true,
-            loaded: false,
-            sender: self,
+            bit: t.bit,
+            loaded: t.loaded,
+            sender: self.with_framer(t.framer),
         }
     }
 
-    // A tick in asynchronous mode.
-    fn tick_asynchronous(self, g: Sending) -> Ticked
-        ensures { λ r. ⌜ r ≡ tickAsynchronous g self (self .unit) ⌝ }
+    fn by_typist(self, t: Typed) -> Ticked
+        ensures { λ r. ⌜ r ≡ byTypist self t ⌝ }
     {
-        let u = self.unit;
-        let k = self.core;
-        match u {
-            LineUnit::Mark => self.idling(g),
-            LineUnit::Flag(n) => self.idling(g),
-            LineUnit::Byte(n, v) => self.idling(g),
-            LineUnit::Check(n, v) => self.idling(g),
-            LineUnit::Abort(n) => self.idling(g),
-            LineUnit::Character(n, v) => {
-                if n == 0 {
-                    return self.idling(g);
-                }
-                Ticked {
-                    bit: v % 2 == 1,
-                    loaded: false,
-                    sender: Sender {
-                        unit: LineUnit::Character(n - 1, v / 2),
-                        core: k,
-                    },
-                }
-            }
+        let c = t.character;
+        let k = t.shared;
+        let mut s = self;
+        s.character = c;
+        s.shared = k;
+        Ticked {
+            bit: t.bit,
+            loaded: t.loaded,
+            sender: s,
         }
     }
 
@@ -169,35 +132,27 @@ impl Sender {
                 loaded: false,
                 sender: self,
             },
-            Mode::Asynchronous => self.tick_asynchronous(g).with_break(g.broken),
-            Mode::Sdlc => self.tick_sdlc(g).with_break(g.broken),
+            Mode::Asynchronous => self.by_typist(g.typing.tick(self.character, self.shared))
+                .with_break(g.broken),
+            Mode::Sdlc => self.by_framer(framing::tick(self.framer(), g.framing))
+                .with_break(g.broken),
         }
+    }
+
+    // Another buffer, latch or check.
+    fn with_shared(self, k: Shared) -> Sender
+        ensures { λ r. ⌜ r ≡ withShared self k ⌝ }
+    {
+        let mut s = self;
+        s.shared = k;
+        s
     }
 
     // A data write.
     pub fn write(self, v: u8) -> Sender
         ensures { λ r. ⌜ r ≡ written self v ⌝ }
     {
-        let u = self.unit;
-        let mut k = self.core;
-        k.buffer = v;
-        k.full = true;
-        Sender { unit: u, core: k }
-    }
-
-    // An abort of eight ones in place of all that was to be sent.
-    fn cut_short(self) -> Sender
-        ensures { λ r. ⌜ r ≡ cutShort self ⌝ }
-    {
-        let mut k = self.core;
-        k.run = 0;
-        k.owed = false;
-        k.full = false;
-        k.latch = true;
-        Sender {
-            unit: LineUnit::Abort(8),
-            core: k,
-        }
+        self.with_shared(self.shared.filled(v))
     }
 
     // Send Abort.
@@ -205,9 +160,8 @@ impl Sender {
         ensures { λ r. ⌜ r ≡ aborted g self ⌝ }
     {
         let mode = g.mode;
-        let u = self.unit;
-        if in_sdlc(mode) & g.on & !u.aborting() {
-            return self.cut_short();
+        if in_sdlc(mode) {
+            return self.with_framer(framing::send_abort(self.framer(), g.framing));
         }
         self
     }
@@ -216,30 +170,26 @@ impl Sender {
     pub fn preset_check(self) -> Sender
         ensures { λ r. ⌜ r ≡ checkPreset self ⌝ }
     {
-        let u = self.unit;
-        let mut k = self.core;
-        k.check = ONES;
-        Sender { unit: u, core: k }
+        self.with_shared(self.shared.check_set(ONES))
     }
 
     // Clear the underrun latch.
     pub fn clear_latch(self) -> Sender
         ensures { λ r. ⌜ r ≡ latchCleared self ⌝ }
     {
-        let u = self.unit;
-        let mut k = self.core;
-        k.latch = false;
-        Sender { unit: u, core: k }
+        self.with_shared(self.shared.cleared())
     }
 
-    // A change of mode.
+    // A change of mode: every mode at rest.
     pub fn idle(self) -> Sender
         ensures { λ r. ⌜ r ≡ idled self ⌝ }
     {
-        let k = self.core;
+        let shared = self.shared;
         Sender {
             unit: LineUnit::Mark,
-            core: k.uncounted(),
+            insertion: not_counted(),
+            character: Character::none(),
+            shared,
         }
     }
 
@@ -248,9 +198,7 @@ impl Sender {
         ensures { λ r. ⌜ r ≡ allSent g self ⌝ }
     {
         let mode = g.mode;
-        let u = self.unit;
-        let k = self.core;
-        in_sdlc(mode) | (!u.under_way() & !k.full)
+        in_sdlc(mode) | (!self.character.under_way() & !self.shared.full)
     }
 
     // RR0 D2.
@@ -258,7 +206,6 @@ impl Sender {
         ensures { λ r. ⌜ r ≡ bufferReady self ⌝ }
     {
         let u = self.unit;
-        let k = self.core;
-        !k.full & !u.checking()
+        !self.shared.full & !u.checking()
     }
 }

@@ -6,6 +6,7 @@ use Rattle.common.specs.Choice.{if_then_else_}
 use Rattle.common.specs.declared.Mode.{Mode}
 use Rattle.common.specs.declared.Mode.the-variants.{NoMode, Asynchronous, Sdlc}
 use Rattle.line.specs.Bits.{odd}
+use Rattle.asynchronous.specs.declared.Format.{Format}
 use Rattle.sender.specs.declared.Sending.{Sending}
 use Rattle.receiver.specs.declared.Receiving.{Receiving}
 use Rattle.settings.specs.declared.Registers.{Registers}
@@ -46,18 +47,19 @@ commandIn v = v / 8 % 8
 abbrev pub presetIn : ℕ → ℕ
 presetIn v = v / 64
 
--- "WR1: D0 external, D1 transmit interrupt; D2 status affects vector (B); D4-3 receive: 0 off, 1 first, 2 all with parity special, 3 all."
-abbrev pub externalOn : Registers → Bool
-externalOn r = odd (r .wr1)
+-- "WR1: D0 external, D1 transmit interrupt; D2 status affects vector (B); D4-3 receive: 0 off, 1 first,
+-- 2 all with parity special, 3 all."
+abbrev pub externalOn : ℕ → Bool
+externalOn wr1 = odd wr1
 
 abbrev pub transmitOn : ℕ → Bool
 transmitOn wr1 = odd (wr1 / 2)
 
-abbrev pub statusAffects : Registers → Bool
-statusAffects r = odd (r .wr1 / 4)
+abbrev pub statusAffects : ℕ → Bool
+statusAffects wr1 = odd (wr1 / 4)
 
-abbrev pub receiveMode : Registers → ℕ
-receiveMode r = r .wr1 / 8 % 4
+abbrev pub receiveMode : ℕ → ℕ
+receiveMode wr1 = wr1 / 8 % 4
 
 -- "WR3: D0 on, D2 address search, D4 enter hunt, D5 auto enables, D7-6 length"
 abbrev pub entersHunt : ℕ → Bool
@@ -75,30 +77,44 @@ synchronousField wr4 = wr4 / 16 % 4
 
 -- a reset leaves WR4 zero, which no accepted write does: no mode
 unfoldable pub modeOf : ℕ → Mode
-modeOf wr4 = if eqb (stopField wr4) 0 then (if eqb (synchronousField wr4) 2 then Sdlc else NoMode) else Asynchronous
+modeOf wr4 =
+    if eqb (stopField wr4) 0 then (if eqb (synchronousField wr4) 2 then Sdlc else NoMode)
+    else Asynchronous
 
 -- refusal 3: "a WR4 write with D7-6 not 00, or D3-2 = 10, or D3-2 = 00 and D5-4 not 10"
 unfoldable pub notBuilt : ℕ → Bool
-notBuilt wr4 = not (eqb (wr4 / 64) 0) || (eqb (stopField wr4) 2 || (eqb (stopField wr4) 0 && not (eqb (synchronousField wr4) 2)))
+notBuilt wr4 =
+    not (eqb (wr4 / 64) 0)
+    || (eqb (stopField wr4) 2 || (eqb (stopField wr4) 0 && not (eqb (synchronousField wr4) 2)))
 
 -- "Lengths: 00 five, 01 seven, 10 six, 11 eight."
 unfoldable pub lengthOf : ℕ → ℕ
-lengthOf field = if eqb field 0 then 5 else (if eqb field 1 then 7 else (if eqb field 2 then 6 else 8))
+lengthOf field =
+    if eqb field 0 then 5 else (if eqb field 1 then 7 else (if eqb field 2 then 6 else 8))
 
 abbrev pub stopsOf : ℕ → ℕ
 stopsOf wr4 = if eqb (stopField wr4) 3 then 2 else 1
 
--- 01, Sending: "On means WR5 D3 and, with auto enables, CTS." "WR5: D0 Tx check included, D3 on, D4 break, D6-5 length."
+-- a character's length, by its two bits, and its parity
+abbrev pub formatOf : Registers → ℕ → Format
+formatOf r field =
+    record { length = lengthOf field; parity = odd (r .wr4); even = odd (r .wr4 / 2) }
+
+-- 01, Sending: "On means WR5 D3 and, with auto enables, CTS."
+abbrev pub sends : Registers → Lines → Bool
+sends r l = odd (r .wr5 / 8) && (not (autoEnables r) || l .cts)
+
+-- "WR5: D0 Tx check included, D3 on, D4 break, D6-5 length."
 unfoldable pub sendingOf : Registers → Lines → Sending
 sendingOf r l = record {
   mode = modeOf (r .wr4);
-  on = odd (r .wr5 / 8) && (not (autoEnables r) || l .cts);
-  included = odd (r .wr5);
   broken = odd (r .wr5 / 16);
-  length = lengthOf (r .wr5 / 32 % 4);
-  parity = odd (r .wr4);
-  even = odd (r .wr4 / 2);
-  stops = stopsOf (r .wr4);
+  framing = record { on = sends r l; included = odd (r .wr5) };
+  typing = record {
+    on = sends r l;
+    format = formatOf r (r .wr5 / 32 % 4);
+    stops = stopsOf (r .wr4);
+  };
 }
 
 -- 01, Receiving: "On means WR3 D0 and, with auto enables, DCD." "WR6: address."
@@ -106,9 +122,6 @@ unfoldable pub receivingOf : Registers → Lines → Receiving
 receivingOf r l = record {
   mode = modeOf (r .wr4);
   on = odd (r .wr3) && (not (autoEnables r) || l .dcd);
-  search = odd (r .wr3 / 4);
-  address = r .wr6;
-  length = lengthOf (r .wr3 / 64);
-  parity = odd (r .wr4);
-  even = odd (r .wr4 / 2);
+  addressing = record { search = odd (r .wr3 / 4); address = r .wr6 };
+  format = formatOf r (r .wr3 / 64);
 }

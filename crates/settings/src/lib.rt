@@ -1,9 +1,14 @@
 // 01, Registers: the write registers as written, and what they say. Each bit is named once. Assumes nothing.
+use asynchronous::Format;
+use asynchronous::Typing;
 use common::Mode;
 use receiver::Receiving;
+use sdlc::Addressing;
+use sdlc::Framing;
 use sender::Sending;
 ghost use mathlib.Core.Path.{_≡_};
-ghost use Rattle.settings.specs.Settings.{modeOf, notBuilt, lengthOf, stopsOf, autoEnables, sendingOf, receivingOf};
+ghost use Rattle.settings.specs.Settings.{pointerIn, commandIn, presetIn, externalOn, transmitOn, statusAffects, receiveMode, entersHunt};
+ghost use Rattle.settings.specs.Settings.{modeOf, notBuilt, lengthOf, stopsOf, autoEnables, formatOf, sends, sendingOf, receivingOf};
 
 // WR1 to WR7 as they were written; WR2 in channel B alone.
 pub struct Registers {
@@ -20,6 +25,62 @@ pub struct Registers {
 pub struct Lines {
     pub dcd: bool,
     pub cts: bool,
+}
+
+// WR0's pointer.
+pub fn pointer_in(wr0: u8) -> u8
+    ensures { λ r. ⌜ r ≡ pointerIn wr0 ⌝ }
+{
+    wr0 % 8
+}
+
+// WR0's command.
+pub fn command_in(wr0: u8) -> u8
+    ensures { λ r. ⌜ r ≡ commandIn wr0 ⌝ }
+{
+    wr0 / 8 % 8
+}
+
+// WR0's D7-6.
+pub fn preset_in(wr0: u8) -> u8
+    ensures { λ r. ⌜ r ≡ presetIn wr0 ⌝ }
+{
+    wr0 / 64
+}
+
+// WR1's external interrupt is on.
+pub fn external_on(wr1: u8) -> bool
+    ensures { λ r. ⌜ r ≡ externalOn wr1 ⌝ }
+{
+    wr1 % 2 == 1
+}
+
+// WR1's transmit interrupt is on.
+pub fn transmit_on(wr1: u8) -> bool
+    ensures { λ r. ⌜ r ≡ transmitOn wr1 ⌝ }
+{
+    wr1 / 2 % 2 == 1
+}
+
+// WR1, of B: status affects the vector.
+pub fn status_affects(wr1: u8) -> bool
+    ensures { λ r. ⌜ r ≡ statusAffects wr1 ⌝ }
+{
+    wr1 / 4 % 2 == 1
+}
+
+// WR1's receive interrupt: 0 off, 1 first, 2 all with parity special, 3 all.
+pub fn receive_mode(wr1: u8) -> u8
+    ensures { λ r. ⌜ r ≡ receiveMode wr1 ⌝ }
+{
+    wr1 / 8 % 4
+}
+
+// WR3's D4.
+pub fn enters_hunt(wr3: u8) -> bool
+    ensures { λ r. ⌜ r ≡ entersHunt wr3 ⌝ }
+{
+    wr3 / 16 % 2 == 1
 }
 
 // The mode that this WR4 chose.
@@ -70,21 +131,41 @@ impl Registers {
         self.wr3 / 32 % 2 == 1
     }
 
+    // A character's length and parity, the length by its two bits.
+    fn format(self, field: u8) -> Format
+        ensures { λ r. ⌜ r ≡ formatOf self field ⌝ }
+    {
+        Format {
+            length: length_of(field),
+            parity: self.wr4 % 2 == 1,
+            even: self.wr4 / 2 % 2 == 1,
+        }
+    }
+
+    // The sender is on.
+    fn sends(self, l: Lines) -> bool
+        ensures { λ r. ⌜ r ≡ sends self l ⌝ }
+    {
+        (self.wr5 / 8 % 2 == 1) & (!self.auto_enables() | l.cts)
+    }
+
     // The sender's settings.
     pub fn sending(self, l: Lines) -> Sending
         ensures { λ r. ⌜ r ≡ sendingOf self l ⌝ }
     {
-        let wr4 = self.wr4;
-        let wr5 = self.wr5;
+        let on = self.sends(l);
         Sending {
-            mode: mode_of(wr4),
-            on: (wr5 / 8 % 2 == 1) & (!self.auto_enables() | l.cts),
-            included: wr5 % 2 == 1,
-            broken: wr5 / 16 % 2 == 1,
-            length: length_of(wr5 / 32 % 4),
-            parity: wr4 % 2 == 1,
-            even: wr4 / 2 % 2 == 1,
-            stops: stops_of(wr4),
+            mode: mode_of(self.wr4),
+            broken: self.wr5 / 16 % 2 == 1,
+            framing: Framing {
+                on,
+                included: self.wr5 % 2 == 1,
+            },
+            typing: Typing {
+                on,
+                format: self.format(self.wr5 / 32 % 4),
+                stops: stops_of(self.wr4),
+            },
         }
     }
 
@@ -92,16 +173,14 @@ impl Registers {
     pub fn receiving(self, l: Lines) -> Receiving
         ensures { λ r. ⌜ r ≡ receivingOf self l ⌝ }
     {
-        let wr3 = self.wr3;
-        let wr4 = self.wr4;
         Receiving {
-            mode: mode_of(wr4),
-            on: (wr3 % 2 == 1) & (!self.auto_enables() | l.dcd),
-            search: wr3 / 4 % 2 == 1,
-            address: self.wr6,
-            length: length_of(wr3 / 64),
-            parity: wr4 % 2 == 1,
-            even: wr4 / 2 % 2 == 1,
+            mode: mode_of(self.wr4),
+            on: (self.wr3 % 2 == 1) & (!self.auto_enables() | l.dcd),
+            addressing: Addressing {
+                search: self.wr3 / 4 % 2 == 1,
+                address: self.wr6,
+            },
+            format: self.format(self.wr3 / 64),
         }
     }
 }

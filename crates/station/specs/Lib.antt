@@ -1,5 +1,2 @@
-pub mod Drive
-pub mod Parts
-pub mod Through
-pub mod Report
+pub mod Station
 pub mod Laws

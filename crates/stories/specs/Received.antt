@@ -5,9 +5,9 @@ use mathlib.Core.List.{List, [], _∷_, _++_}
 use Prim.Native.Nat.{ℕ}
 use lib.Dec.{eqb, leb}
 use Rattle.common.specs.Choice.{if_then_else_}
-use Rattle.queue.specs.declared.Entry.{Entry}
+use Rattle.entry.specs.declared.Entry.{Entry}
 use Rattle.queue.specs.Queue.{oldest, waits}
-use Rattle.queue.specs.Laws.{entryIf}
+use Rattle.queue.specs.Holding.{entryIf}
 use Rattle.channel.specs.declared.Answer.{Answer}
 use Rattle.channel.specs.declared.Answer.the-variants.{Done, Gave, Refused}
 use Rattle.chip.specs.declared.Chip.{Chip}

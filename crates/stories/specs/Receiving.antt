@@ -1,29 +1,19 @@
 -- Stories of a receiver, computed: 01's marked example 4, "Frame 2 received: FF, 00, FF; the last ends, good", with other events behind every
 -- bit, and the same with a bit flipped. Each is told by the chip and by no wrong one of must-fail. Assumes nothing.
 use mathlib.Core.Path.{_≡_, refl}
-use mathlib.Core.Bool.{Bool, false}
+use mathlib.Core.Bool.{Bool, true, false}
 use mathlib.Core.List.{List, [], _∷_, _++_}
 use lib.ListN.{drop}
-use Rattle.line.specs.Bits.{oneIf, lowBits, textBits}
-use Rattle.line.specs.Check.{checkStep, checkOver, topBits, checkBits}
+use Rattle.line.specs.Bits.{oneIf, lowBits}
 use Rattle.line.specs.Insertion.{stuff}
 use Rattle.line.specs.Frame.{flagBits, contentOf, frame}
-use Rattle.queue.specs.Queue.{pushed, taken, oldest, rr1, special}
-use Rattle.sender.specs.Sender as sender
-use Rattle.receiver.specs.Sdlc.{accept, push, one, zeroBit}
-use Rattle.receiver.specs.Receiver.{hear}
-use Rattle.settings.specs.Settings.{modeOf, notBuilt, lengthOf, sendingOf, receivingOf}
 use Rattle.channel.specs.declared.Answer.the-variants.{Gave}
-use Rattle.channel.specs.Status.{changed, noticed, afresh}
-use Rattle.channel.specs.Channel.{liveOf, settled}
-use Rattle.channel.specs.Control.{commanded, preset, commandStep, presetStep, writeWr0, setWr4, setRegister, controlWritten, rr0, rr1Now, readRegister}
-use Rattle.channel.specs.Events.{dataRead, transmitTick, receiveTick, linesSet, specialWaits, receivePending, pendingIn}
+use Rattle.chip.specs.Computing.{computing}
 use Rattle.chip.specs.declared.Chip.{Chip}
-use Rattle.chip.specs.Interrupts.{highestOf, pendingLevel, serviceLevel, anyPending, codeOf, vectorFor, rr2, serving, atLevel, mayTake, acknowledge, reti}
-use Rattle.chip.specs.Chip.{hardReset, controlWriteA, controlWrite, controlReadCall, dataWriteCall, dataReadCall, transmitCall, receiveCall, linesCall}
+use Rattle.chip.specs.Chip.{hardReset}
 use Rattle.chip.specs.Event.{Event, ControlWrite, ControlRead, DataWrite, DataRead, Transmit, Receive, SetLines, Acknowledge, Reti}
 use Rattle.stories.specs.Story.{Which, A, number, happens, after}
-use Rattle.stories.specs.Received.{bitsOf, valuesOf, goodEnd, badEnd}
+use Rattle.stories.specs.Received.{bitsOf, valuesOf, goodEnd, badEnd, noEnd}
 
 -- from a hard reset: WR4 for SDLC, WR3 on
 abbrev pub listening : Which → Chip
@@ -60,18 +50,37 @@ unflipped = drop 1 (contentOf (0xFF ∷ []))
 abbrev pub flippedLine : List Bool
 flippedLine = flagBits ++ (stuff 0 (false ∷ unflipped) ++ flagBits)
 
+-- two frames with one flag between them
+abbrev pub twoFrames : List Event
+twoFrames =
+    story A (DataRead 0 ∷ [])
+    (flagBits ++ (stuff 0 (contentOf (0xFF ∷ [])) ++ (flagBits ++ (stuff 0 (contentOf (0x00 ∷ [])) ++ flagBits))))
+
+-- asynchronous, seven bits, odd parity: 41 with its parity bit, which is 1, and RR1
+abbrev pub sevenOdd : List Event
+sevenOdd = ControlWrite 0 4 ∷ ControlWrite 0 0b101 ∷ ControlWrite 0 3 ∷ ControlWrite 0 0b1000001 ∷ []
+
+abbrev pub character : List Bool
+character = false ∷ (lowBits 7 0x41 ++ (true ∷ true ∷ []))
+
 pub record Told : Type 0 where
   pub noisy-bits : bitsOf A noisy ≡ frame (0xFF ∷ [])
   pub noisy-values : valuesOf A (listening A) noisy ≡ 0xFF ∷ 0x00 ∷ 0xFF ∷ []
+  pub two-values : valuesOf A (listening A) twoFrames ≡ 0xFF ∷ 0x00 ∷ 0xFF ∷ 0x00 ∷ 0x78 ∷ 0xF0 ∷ []
+  -- two ones and the parity bit are odd in number: no parity error, and all is sent
+  pub right-parity : happens (after (after hardReset sevenOdd) (story A [] character ++ (ControlWrite 0 1 ∷ [])))
+      (ControlRead 0) .answer ≡ Gave noEnd
   -- RR1 shows the mark of the last one when the two before it are read
   pub mark : happens (after (listening A) named) (ControlRead 0) .answer ≡ Gave goodEnd
   pub flipped-mark : happens (after (listening A) (story A [] flippedLine ++ nameLast)) (ControlRead 0) .answer ≡ Gave badEnd
 
 pub told : Told
-unfolding bitsOf valuesOf story stuff textBits lowBits checkOver checkStep checkBits topBits after controlWriteA controlWrite controlReadCall dataWriteCall dataReadCall transmitCall receiveCall linesCall highestOf pendingLevel serviceLevel anyPending codeOf vectorFor rr2 serving atLevel mayTake acknowledge reti liveOf settled commanded preset commandStep presetStep writeWr0 setWr4 setRegister controlWritten rr0 rr1Now readRegister dataRead transmitTick receiveTick linesSet specialWaits receivePending pendingIn changed noticed afresh sender.following sender.going sender.tickSdlc sender.tick hear one zeroBit push accept pushed taken oldest rr1 special modeOf notBuilt lengthOf sendingOf receivingOf
+unfolding computing bitsOf valuesOf story after
 told = record {
   noisy-bits = refl;
   noisy-values = refl;
+  two-values = refl;
+  right-parity = refl;
   mark = refl;
   flipped-mark = refl;
 }

@@ -5,26 +5,18 @@ use mathlib.Core.Bool.{true, false}
 use mathlib.Core.List.{List, [], _∷_, _++_}
 use Prim.Native.Nat.{ℕ, zero, suc, _+_, _*_}
 use lib.ListN.{replicate}
-use Rattle.line.specs.Bits.{lowBits, textBits}
-use Rattle.line.specs.Check.{checkStep, checkOver, topBits, checkBits}
+use Rattle.line.specs.Check.{checkBits}
 use Rattle.line.specs.Insertion.{stuff}
 use Rattle.line.specs.Frame.{flagBits, noteBits, checkOf, frame}
-use Rattle.queue.specs.Queue.{pushed, taken, oldest, special}
-use Rattle.sender.specs.Sender as sender
-use Rattle.receiver.specs.Sdlc.{accept, push, one, zeroBit}
-use Rattle.receiver.specs.Receiver.{hear}
-use Rattle.settings.specs.Settings.{modeOf, notBuilt, lengthOf, sendingOf, receivingOf}
-use Rattle.channel.specs.Status.{changed, noticed, afresh}
-use Rattle.channel.specs.Channel.{liveOf, settled}
-use Rattle.channel.specs.Control.{commanded, preset, commandStep, presetStep, writeWr0, setWr4, setRegister, controlWritten, rr0, rr1Now, readRegister}
-use Rattle.channel.specs.Events.{dataRead, transmitTick, receiveTick, linesSet, specialWaits, receivePending, pendingIn}
+use Rattle.status.specs.Status.{afresh}
+use Rattle.channel.specs.Control.{preset}
+use Rattle.chip.specs.Computing.{computing}
 use Rattle.chip.specs.declared.Chip.{Chip}
-use Rattle.chip.specs.Interrupts.{highestOf, pendingLevel, serviceLevel, anyPending, serving, atLevel, mayTake, acknowledge, reti}
-use Rattle.chip.specs.Chip.{hardReset, controlWriteA, controlWrite, controlReadCall, dataWriteCall, dataReadCall, transmitCall, receiveCall, linesCall}
+use Rattle.chip.specs.Chip.{hardReset}
 use Rattle.chip.specs.Event.{Event, ControlWrite, ControlRead, DataWrite, DataRead, Transmit, Receive, SetLines, Acknowledge, Reti}
-use Rattle.come.specs.Start.{flagHead}
+use Rattle.frames.specs.Start.{flagHead}
 use Rattle.stories.specs.Story.{A, happens, after}
-use Rattle.stories.specs.Sent.{lineOf, ticks, d6, resetStatus}
+use Rattle.stories.specs.Sent.{lineOf, ticks, d6, d2, resetStatus}
 
 unfoldable pub times : ℕ → List Event → List Event
 times zero es = []
@@ -83,6 +75,14 @@ sendAbort = 0b1000
 abbrev pub gone : List Event
 gone = DataWrite 0 3 ∷ times 16 tick
 
+-- a byte waits behind the one under way when Send Abort comes
+abbrev pub waiting : Chip
+waiting = after begin (DataWrite 0 1 ∷ (times 9 tick ++ (DataWrite 0 2 ∷ [])))
+
+-- F8 has gone out to its last bit, its five ones owe a zero, and the sender is switched off
+abbrev pub owing : Chip
+owing = after begin (DataWrite 0 0xF8 ∷ (times 13 tick ++ (ControlWrite 0 5 ∷ ControlWrite 0 0b0001 ∷ [])))
+
 pub record Told : Type 0 where
   pub noisy-line : flagHead 3 ++ lineOf A begin noisy ≡ frame (255 ∷ 136 ∷ [])
   pub noisy-ticks : 3 + ticks A noisy ≡ 8 * (2 + 2) + 16 + 2
@@ -97,10 +97,13 @@ pub record Told : Type 0 where
   -- no flag presets the check: that of the next frame, of the byte that came too late, runs on from this one's
   pub check-runs-on : lineOf A (after begin whole) unpreset ≡ stuff 0 (noteBits (0 ∷ []) ++ checkBits (checkOf (0 ∷ 0 ∷ []))) ++ flagBits
   -- an abort: eight ones and a flag
+  pub buffer-dropped : d2 A (happens waiting (ControlWrite 0 sendAbort) .chip) ≡ true
+  -- off: the zero that is owed goes out before the mark
+  pub owed-first : lineOf A owing (times 3 tick) ≡ false ∷ true ∷ true ∷ []
   pub aborted-line : lineOf A begin (begun ++ (ControlWrite 0 sendAbort ∷ gone)) ≡ lineOf A begin begun ++ (replicate 8 true ++ flagBits)
 
 pub told : Told
-unfolding times lineOf ticks after stuff textBits lowBits checkOver checkStep checkBits topBits controlWriteA controlWrite controlReadCall dataWriteCall dataReadCall transmitCall receiveCall linesCall highestOf pendingLevel serviceLevel anyPending serving atLevel mayTake acknowledge reti liveOf settled commanded preset commandStep presetStep writeWr0 setWr4 setRegister controlWritten rr0 rr1Now readRegister dataRead transmitTick receiveTick linesSet specialWaits receivePending pendingIn changed noticed afresh sender.following sender.going sender.tickSdlc sender.tick hear one zeroBit push accept pushed taken oldest special modeOf notBuilt lengthOf sendingOf receivingOf
+unfolding computing times lineOf ticks after
 told = record {
   noisy-line = refl;
   noisy-ticks = refl;
@@ -111,5 +114,7 @@ told = record {
   held-back = refl;
   shown-afresh = refl;
   check-runs-on = refl;
+  buffer-dropped = refl;
+  owed-first = refl;
   aborted-line = refl;
 }

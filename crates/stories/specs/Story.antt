@@ -4,8 +4,8 @@ use mathlib.Core.List.{List, [], _∷_, _++_}
 use Prim.Native.Nat.{ℕ}
 use Rattle.channel.specs.declared.Channel.{Channel}
 use Rattle.chip.specs.declared.Chip.{Chip}
-use Rattle.chip.specs.declared.Outcome.{Outcome}
-use Rattle.chip.specs.Event.{Event, step}
+use Rattle.chip.specs.Event.{Event}
+pub use Rattle.stories.specs.Happens.{happens}
 
 -- 01, The part we model: "two channels, A (0) and B (1)"
 pub data Which : Type 0 where
@@ -19,11 +19,6 @@ number B = 1
 abbrev pub chan : Which → Chip → Channel
 chan A c = c .a
 chan B c = c .b
-
--- What an event does to a chip. Stories, and with them the theorems of the demands, speak of the chip by this name alone,
--- so that a wrong chip can be put in its place
-abbrev pub happens : Chip → Event → Outcome
-happens c e = step c e
 
 -- the chip behind a story
 unfoldable pub after : Chip → List Event → Chip

@@ -1,18 +1,44 @@
 // Reads events from standard input, four bytes each, plays them on a chip and prints a line for each. All that matters is in the crates chip,
 // script and events.
+use chip::Chip;
+use text::LONGEST;
 
-// A byte more than the buffer holds.
-fn goes_on() -> bool {
-    let mut more = [0u8; 1];
-    0 < io::read_full(0, &mut more)
+// So many bytes are printed.
+fn say(bytes: &[u8], n: usize) {
+    if n <= bytes.len() {
+        io::write_all(1, &bytes[0..n]);
+    }
+}
+
+// A line is printed.
+fn say_line(text: &[u8; LONGEST], size: usize) {
+    say(text, size);
+}
+
+// More lines than a run can have.
+const LINES: u16 = 20000;
+
+fn play(events: &[u8]) {
+    let mut chip = Chip::reset();
+    let mut at = 0;
+    let mut left = LINES;
+    while 0 < left {
+        let t = events::next(chip, events, at);
+        let l = t.line;
+        if l.size == 0 {
+            return;
+        }
+        let text = l.text;
+        say_line(&text, l.size);
+        chip = t.chip;
+        at = t.at;
+        left = left - 1;
+    }
 }
 
 fn main() {
-    let mut buffer = io::large_buffer();
+    // a byte more than are taken
+    let mut buffer = [0u8; 65537];
     let n = io::read_full(0, &mut buffer);
-    if n == 65536 {
-        events::play(&buffer, goes_on());
-        return;
-    }
-    events::play(&buffer[..n], false);
+    play(&buffer[..n]);
 }

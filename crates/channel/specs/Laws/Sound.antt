@@ -1,149 +1,76 @@
 -- A channel reset gives what a history gives, and every event of a channel keeps it. Assumes nothing.
-use mathlib.Core.Path.{_≡_, refl, sym}
-use mathlib.Core.Bool.{Bool, true, false, not, _&&_, true≢false}
+use mathlib.Core.Bool.{Bool, true, false, _&&_}
 use Prim.Native.Nat.{ℕ, _≤_}
 use native.Mathlib.Omega.{arith}
-use lib.Dec.{T, eqb}
-use Rattle.common.specs.Choice.{if_then_else_}
+use lib.Dec.{eqb}
 use Rattle.common.specs.Mode.{inSdlc}
-use Rattle.common.specs.Tools.{if-elim, by-test}
-use Rattle.common.specs.declared.Mode.{Mode}
-use Rattle.common.specs.declared.Mode.the-variants.{NoMode, Asynchronous, Sdlc}
+use Rattle.common.specs.Tools.{if-elim}
 use Rattle.queue.specs.declared.Queue.{Queue}
 use Rattle.queue.specs.Queue.{taken, waits, errorReset}
-use Rattle.queue.specs.Laws.{SoundQueue}
+use Rattle.queue.specs.Holding.{SoundQueue}
 use Rattle.queue.specs.Laws as queues
-use Rattle.sender.specs.declared.LineUnit.{LineUnit}
-use Rattle.sender.specs.declared.LineUnit.the-variants.{Mark, Flag, Byte, Check, Abort, Character}
-use Rattle.sender.specs.declared.Core.{Core}
 use Rattle.sender.specs.declared.Sender.{Sender}
-use Rattle.sender.specs.declared.Sending.{Sending}
-use Rattle.sender.specs.declared.Ticked.{Ticked}
-use Rattle.sender.specs.Sender.{following, next, going, tickSdlc, idling, tickAsynchronous, withBreak, tickIn, tick, written, aborting, cutShort, aborted, checkPreset, latchCleared}
+use Rattle.sender.specs.Sender.{tick, written, aborted, checkPreset, latchCleared}
 use Rattle.sender.specs.Sound.{SoundSender}
 use Rattle.sender.specs.Laws.Sound as senders
 use Rattle.receiver.specs.declared.Receiver.{Receiver}
 use Rattle.receiver.specs.declared.Heard.{Heard}
 use Rattle.receiver.specs.Receiver.{enterHunt, presetCheck, hear}
-use Rattle.receiver.specs.Laws.{SoundReceiver}
-use Rattle.receiver.specs.Laws as receivers
+use Rattle.receiver.specs.Sound.{SoundReceiver}
+use Rattle.receiver.specs.Laws.Sound as receivers
 use Rattle.settings.specs.declared.Lines.{Lines}
-use Rattle.settings.specs.Settings.{store5, store6, store7, commandIn, presetIn, pointerIn, entersHunt, modeOf, notBuilt, sendingOf, receivingOf}
+use Rattle.settings.specs.Settings.{store5, store6, store7, commandIn, presetIn}
+use Rattle.settings.specs.Settings.{pointerIn, entersHunt, modeOf, notBuilt, sendingOf, receivingOf}
 use Rattle.channel.specs.declared.Side.{Side}
 use Rattle.channel.specs.declared.Side.the-variants.{A, B}
 use Rattle.channel.specs.declared.Channel.{Channel}
 use Rattle.channel.specs.declared.Answered.{Answered}
 use Rattle.channel.specs.declared.DataRead.{DataRead}
-use Rattle.channel.specs.Channel.{withRegisters, withSender, withReceiver, withQueue, withLines, withPointer, settled, resetWith}
-use Rattle.channel.specs.Control.{commanded, preset, commandStep, presetStep, writeWr0, setWr1, setWr2, setWr3, sameMode, setWr4, setRegister, controlWritten, controlRead}
-use Rattle.channel.specs.Events.{dataWritten, dataRead, afterTick, transmitTick, queued, heardBy, receiveTick, linesSet}
-use Rattle.channel.specs.Sound.{has, SoundChannel}
-
--- The unit on the line is one that the mode has
-
-abbrev Has : Mode → Ticked → Type 0
-Has m t = T (has m (t .sender .unit))
-
-following-has : (g : Sending) (k : Core) (u : LineUnit) → Has Sdlc (following g k u)
-unfolding following
-following-has g k Mark = tt
-following-has g k (Abort n) = tt
-following-has g k (Flag n) = if-elim (Has Sdlc) (k .full) tt tt
-following-has g k (Byte n v) = if-elim (Has Sdlc) (k .full) tt (if-elim (Has Sdlc) (not (k .latch) && g .included) tt tt)
-following-has g k (Check n v) = tt
-following-has g k (Character n v) = tt
-
-next-has : (g : Sending) (k : Core) (u : LineUnit) → Has Sdlc (next g k u)
-next-has g k u = if-elim (Has Sdlc) (g .on) (following-has g k u) tt
-
-going-has : (g : Sending) (k : Core) (u : LineUnit) → Has Sdlc (going g k u)
-unfolding going
-going-has g k Mark = next-has g k Mark
-going-has g k (Flag n) = if-elim (Has Sdlc) (eqb n 0) (next-has g k (Flag n)) tt
-going-has g k (Byte n v) = if-elim (Has Sdlc) (eqb n 0) (next-has g k (Byte n v)) tt
-going-has g k (Check n v) = if-elim (Has Sdlc) (eqb n 0) (next-has g k (Check n v)) tt
-going-has g k (Abort n) = if-elim (Has Sdlc) (eqb n 0) (next-has g k (Abort n)) tt
-going-has g k (Character n v) = next-has g k (Character n v)
-
-sdlc-has : (g : Sending) (s : Sender) → T (has Sdlc (s .unit)) → Has Sdlc (tickSdlc g s)
-unfolding tickSdlc
-sdlc-has g s h = if-elim (Has Sdlc) (s .core .owed) h (going-has g (s .core) (s .unit))
-
-idling-has : (g : Sending) (s : Sender) → T (has Asynchronous (s .unit)) → Has Asynchronous (idling g s)
-idling-has g s h = if-elim (Has Asynchronous) (g .on && s .core .full) tt h
-
-asynchronous-has : (g : Sending) (s : Sender) (u : LineUnit) → T (has Asynchronous (s .unit)) → Has Asynchronous (tickAsynchronous g s u)
-unfolding tickAsynchronous
-asynchronous-has g s Mark h = idling-has g s h
-asynchronous-has g s (Flag n) h = idling-has g s h
-asynchronous-has g s (Byte n v) h = idling-has g s h
-asynchronous-has g s (Check n v) h = idling-has g s h
-asynchronous-has g s (Abort n) h = idling-has g s h
-asynchronous-has g s (Character n v) h = if-elim (Has Asynchronous) (eqb n 0) (idling-has g s h) tt
-
-break-has : (m : Mode) (b : Bool) (t : Ticked) → Has m t → Has m (withBreak b t)
-break-has m true t h = h
-break-has m false t h = h
-
-in-has : (m : Mode) (g : Sending) (s : Sender) → T (has m (s .unit)) → Has m (tickIn m g s)
-in-has NoMode g s h = h
-in-has Asynchronous g s h = break-has Asynchronous (g .broken) (tickAsynchronous g s (s .unit)) (asynchronous-has g s (s .unit) h)
-in-has Sdlc g s h = break-has Sdlc (g .broken) (tickSdlc g s) (sdlc-has g s h)
-
-tick-has : (g : Sending) (s : Sender) → T (has (g .mode) (s .unit)) → Has (g .mode) (tick g s)
-unfolding tick
-tick-has g s h = in-has (g .mode) g s h
-
-mark-has : (m : Mode) → T (has m Mark)
-mark-has NoMode = tt
-mark-has Asynchronous = tt
-mark-has Sdlc = tt
-
-abort-has : (m : Mode) (on : Bool) (u : LineUnit) (s t : Sender) → T (has m (s .unit)) → T (has Sdlc (t .unit))
-    → T (has m ((if (inSdlc m && on) && not (aborting u) then t else s) .unit))
-abort-has NoMode on u s t h a = h
-abort-has Asynchronous on u s t h a = h
-abort-has Sdlc on u s t h a = if-elim (λ (x : Sender). T (has Sdlc (x .unit))) (on && not (aborting u)) a h
-
-same-mode : (m n : Mode) → sameMode m n ≡ true → m ≡ n
-same-mode NoMode NoMode e = refl
-same-mode NoMode Asynchronous e = absurd (true≢false (sym e))
-same-mode NoMode Sdlc e = absurd (true≢false (sym e))
-same-mode Asynchronous NoMode e = absurd (true≢false (sym e))
-same-mode Asynchronous Asynchronous e = refl
-same-mode Asynchronous Sdlc e = absurd (true≢false (sym e))
-same-mode Sdlc NoMode e = absurd (true≢false (sym e))
-same-mode Sdlc Asynchronous e = absurd (true≢false (sym e))
-same-mode Sdlc Sdlc e = refl
+use Rattle.channel.specs.Channel.{withRegisters, withSender, withReceiver, withQueue, withLines}
+use Rattle.channel.specs.Channel.{withPointer, settled, resetWith}
+use Rattle.channel.specs.Control.{commanded, preset, commandStep, presetStep, writeWr0, setWr1}
+use Rattle.channel.specs.Control.{setWr2, setWr3, sameMode, setWr4, setRegister, controlWritten}
+use Rattle.channel.specs.Control.{controlRead}
+use Rattle.channel.specs.Events.{dataWritten, dataRead, afterTick, transmitTick, queued, heardBy}
+use Rattle.channel.specs.Events.{receiveTick, linesSet}
+use Rattle.channel.specs.Sound.{SoundChannel}
 
 -- The steps of a channel
 
 pub reset-sound : (l : Lines) → SoundChannel (resetWith l)
-unfolding modeOf
-reset-sound l = record { sender = senders.reset-sound; receiver = receivers.reset-sound; queue = queues.empty-sound; unit = tt; pointer = omega arith }
+reset-sound l = record {
+  sender = senders.reset-sound;
+  receiver = receivers.reset-sound;
+  queue = queues.empty-sound;
+  pointer = omega arith;
+}
 
 settled-sound : (was is : Channel) → SoundChannel is → SoundChannel (settled was is)
 unfolding settled
 settled-sound was is h = h
 
-sender-sound : (c : Channel) (s : Sender) → SoundChannel c → SoundSender s → T (has (modeOf (c .registers .wr4)) (s .unit)) → SoundChannel (withSender c s)
-sender-sound c s h k u = record { sender = k; receiver = h .receiver; queue = h .queue; unit = u; pointer = h .pointer }
+sender-sound : (c : Channel) (s : Sender) → SoundChannel c → SoundSender s → SoundChannel (withSender c s)
+sender-sound c s h k =
+    record { sender = k; receiver = h .receiver; queue = h .queue; pointer = h .pointer }
 
-receiver-sound : (c : Channel) (r : Receiver) → SoundChannel c → SoundReceiver r → SoundChannel (withReceiver c r)
-receiver-sound c r h k = record { sender = h .sender; receiver = k; queue = h .queue; unit = h .unit; pointer = h .pointer }
+receiver-sound : (c : Channel) (r : Receiver) → SoundChannel c → SoundReceiver r
+    → SoundChannel (withReceiver c r)
+receiver-sound c r h k =
+    record { sender = h .sender; receiver = k; queue = h .queue; pointer = h .pointer }
 
 queue-sound : (c : Channel) (q : Queue) → SoundChannel c → SoundQueue q → SoundChannel (withQueue c q)
-queue-sound c q h k = record { sender = h .sender; receiver = h .receiver; queue = k; unit = h .unit; pointer = h .pointer }
+queue-sound c q h k =
+    record { sender = h .sender; receiver = h .receiver; queue = k; pointer = h .pointer }
 
 pointer-sound : (c : Channel) (p : ℕ) → SoundChannel c → p ≤ 7 → SoundChannel (withPointer c p)
-pointer-sound c p h k = record { sender = h .sender; receiver = h .receiver; queue = h .queue; unit = h .unit; pointer = k }
+pointer-sound c p h k =
+    record { sender = h .sender; receiver = h .receiver; queue = h .queue; pointer = k }
 
-abort-sound : (c : Channel) → SoundChannel c → SoundChannel (withSender c (aborted (sendingOf (c .registers) (c .lines)) (c .sender)))
-unfolding sendingOf
+abort-sound : (c : Channel) → SoundChannel c
+    → SoundChannel (withSender c (aborted (sendingOf (c .registers) (c .lines)) (c .sender)))
 abort-sound c h =
     let g = sendingOf (c .registers) (c .lines) in
     sender-sound c (aborted g (c .sender)) h (senders.abort-sound g (c .sender) (h .sender))
-    (abort-has (modeOf (c .registers .wr4)) (g .on) (c .sender .unit) (c .sender) (cutShort (c .sender)) (h .unit) tt)
 
 commanded-sound : (c : Channel) (k : ℕ) → SoundChannel c → SoundChannel (commanded c k)
 unfolding commanded
@@ -152,14 +79,18 @@ commanded-sound c k h =
     (if-elim SoundChannel (eqb k 2) h
     (if-elim SoundChannel (eqb k 4) h
     (if-elim SoundChannel (eqb k 5) h
-    (if-elim SoundChannel (eqb k 6) (queue-sound c (errorReset (c .queue)) h (queues.error-reset-sound (c .queue) (h .queue))) h))))
+    (if-elim SoundChannel (eqb k 6)
+    (queue-sound c (errorReset (c .queue)) h (queues.error-reset-sound (c .queue) (h .queue))) h))))
 
 preset-sound : (c : Channel) (k : ℕ) → SoundChannel c → SoundChannel (preset c k)
 unfolding preset
 preset-sound c k h =
-    if-elim SoundChannel (eqb k 1) (receiver-sound c (presetCheck (c .receiver)) h (receivers.preset-check-sound (c .receiver) (h .receiver)))
-    (if-elim SoundChannel (eqb k 2) (sender-sound c (checkPreset (c .sender)) h (h .sender) (h .unit))
-    (if-elim SoundChannel (eqb k 3) (sender-sound c (latchCleared (c .sender)) h (h .sender) (h .unit)) h))
+    if-elim SoundChannel (eqb k 1)
+    (receiver-sound c (presetCheck (c .receiver)) h (receivers.preset-check-sound (c .receiver) (h .receiver)))
+    (if-elim SoundChannel (eqb k 2)
+    (sender-sound c (checkPreset (c .sender)) h (senders.preset-sound (c .sender) (h .sender)))
+    (if-elim SoundChannel (eqb k 3)
+    (sender-sound c (latchCleared (c .sender)) h (senders.clear-sound (c .sender) (h .sender))) h))
 
 wr0-sound : (c : Channel) (v : ℕ) → SoundChannel c → SoundChannel (writeWr0 c v)
 unfolding writeWr0 commandStep presetStep
@@ -167,7 +98,8 @@ wr0-sound c v h =
     let d = commandStep c v in
     let k = settled-sound c (commanded c (commandIn v)) (commanded-sound c (commandIn v) h) in
     if-elim SoundChannel (eqb (commandIn v) 3) (reset-sound (c .lines))
-    (pointer-sound (presetStep d v) (pointerIn v) (settled-sound d (preset d (presetIn v)) (preset-sound d (presetIn v) k)) (omega arith))
+    (pointer-sound (presetStep d v) (pointerIn v)
+    (settled-sound d (preset d (presetIn v)) (preset-sound d (presetIn v) k)) (omega arith))
 
 wr3-sound : (c : Channel) (v : ℕ) → SoundChannel c → SoundChannel (setWr3 c v)
 wr3-sound c v h =
@@ -177,19 +109,11 @@ wr3-sound c v h =
 wr4-sound : (c : Channel) (v : ℕ) → SoundChannel c → SoundChannel (setWr4 c v)
 unfolding setWr4
 wr4-sound c v h =
-    by-test SoundChannel (sameMode (modeOf (c .registers .wr4)) (modeOf v))
-    (λ e. record {
-      sender = h .sender;
-      receiver = h .receiver;
-      queue = h .queue;
-      unit = rw (same-mode (modeOf (c .registers .wr4)) (modeOf v) e) at (h .unit);
-      pointer = h .pointer;
-    })
-    (λ e. record {
+    if-elim SoundChannel (sameMode (modeOf (c .registers .wr4)) (modeOf v)) h
+    (record {
       sender = senders.idle-sound (c .sender);
       receiver = receivers.mode-changed-sound (c .receiver) (inSdlc (modeOf v));
       queue = h .queue;
-      unit = mark-has (modeOf v);
       pointer = h .pointer;
     })
 
@@ -197,7 +121,8 @@ wr2-sound : (c : Channel) (w : Side) (v : ℕ) → SoundChannel c → SoundChann
 wr2-sound c A v h = h
 wr2-sound c B v h = h
 
-register-sound : (c : Channel) (w : Side) (p v : ℕ) → SoundChannel c → SoundChannel (setRegister c w p v)
+register-sound : (c : Channel) (w : Side) (p v : ℕ) → SoundChannel c
+    → SoundChannel (setRegister c w p v)
 unfolding setRegister
 register-sound c w p v h =
     let r = c .registers in
@@ -206,14 +131,16 @@ register-sound c w p v h =
     (if-elim SoundChannel (eqb p 3) {x = setWr3 c v} (wr3-sound c v h)
     (if-elim SoundChannel (eqb p 4) {x = setWr4 c v} (wr4-sound c v h)
     (if-elim SoundChannel (eqb p 5) {x = withRegisters c (store5 r v)} h
-    (if-elim SoundChannel (eqb p 6) {x = withRegisters c (store6 r v)} {y = withRegisters c (store7 r v)} h h)))))
+    (if-elim SoundChannel (eqb p 6)
+    {x = withRegisters c (store6 r v)} {y = withRegisters c (store7 r v)} h h)))))
 
 -- The events of a channel
 
 abbrev SoundAnswered : Answered → Type 0
 SoundAnswered r = SoundChannel (r .channel)
 
-pub control-write-sound : (c : Channel) (w : Side) (v : ℕ) → SoundChannel c → SoundChannel (controlWritten c w v .channel)
+pub control-write-sound : (c : Channel) (w : Side) (v : ℕ) → SoundChannel c
+    → SoundChannel (controlWritten c w v .channel)
 unfolding controlWritten
 control-write-sound c w v h =
     let d = setRegister c w (c .pointer) v in
@@ -221,11 +148,13 @@ control-write-sound c w v h =
     (if-elim SoundAnswered (eqb (c .pointer) 4 && notBuilt v) h
     (pointer-sound (settled c d) 0 (settled-sound c d (register-sound c w (c .pointer) v h)) (omega arith)))
 
-pub control-read-sound : (c : Channel) (pending : Bool) (vector : ℕ) → SoundChannel c → SoundChannel (controlRead c pending vector .channel)
+pub control-read-sound : (c : Channel) (pending : Bool) (vector : ℕ) → SoundChannel c
+    → SoundChannel (controlRead c pending vector .channel)
 control-read-sound c pending vector h = pointer-sound c 0 h (omega arith)
 
 pub data-write-sound : (c : Channel) (v : ℕ) → SoundChannel c → SoundChannel (dataWritten c v)
-data-write-sound c v h = sender-sound c (written (c .sender) v) h (senders.write-sound (c .sender) v (h .sender)) (h .unit)
+data-write-sound c v h =
+    sender-sound c (written (c .sender) v) h (senders.write-sound (c .sender) v (h .sender))
 
 pub data-read-sound : (c : Channel) → SoundChannel c → SoundChannel (dataRead c .channel)
 unfolding dataRead
@@ -234,11 +163,12 @@ data-read-sound c h =
     (queue-sound c (taken (c .queue)) h (queues.take-sound (c .queue) (h .queue))) h
 
 pub transmit-sound : (c : Channel) → SoundChannel c → SoundChannel (transmitTick c .channel)
-unfolding transmitTick sendingOf
+unfolding transmitTick
 transmit-sound c h =
     let g = sendingOf (c .registers) (c .lines) in
     let s = tick g (c .sender) .sender in
-    settled-sound c (afterTick c (tick g (c .sender))) (sender-sound c s h (senders.tick-sound g (c .sender) (h .sender)) (tick-has g (c .sender) (h .unit)))
+    settled-sound c (afterTick c (tick g (c .sender)))
+    (sender-sound c s h (senders.tick-sound g (c .sender) (h .sender)))
 
 queued-sound : (q : Queue) (t : Heard) → SoundQueue q → SoundQueue (queued q t)
 queued-sound q t h = if-elim SoundQueue (t .some) (queues.push-sound q (t .entry) h) h
@@ -252,7 +182,6 @@ receive-sound c b h =
       sender = h .sender;
       receiver = receivers.hear-sound g (c .receiver) (h .receiver) b;
       queue = queued-sound (c .queue) t (h .queue);
-      unit = h .unit;
       pointer = h .pointer;
     }
 

@@ -1,5 +1,5 @@
--- Most ticks, in a form of their own: inside a byte of SDLC a transmit tick changes nothing but the sender, and inside a character a receive
--- tick nothing but the receiver. Assumes nothing.
+-- Most ticks, in a form of their own: inside a byte of SDLC a transmit tick changes nothing but the
+-- sender, and inside a character a receive tick nothing but the receiver. Assumes nothing.
 use mathlib.Core.Path.{_≡_, refl, sym, ap, _∙_}
 use mathlib.Core.Bool.{Bool, true, false, not, _&&_, _||_}
 use Rattle.common.specs.Choice.{if_then_else_}
@@ -9,30 +9,30 @@ use Rattle.common.specs.declared.Mode.{Mode}
 use Rattle.common.specs.declared.Mode.the-variants.{NoMode, Asynchronous, Sdlc}
 use Rattle.line.specs.Bits.{oneIf}
 use Rattle.line.specs.Check.{differs}
+use Rattle.sdlc.specs.declared.Framed.{Framed}
+use Rattle.sdlc.specs.declared.Listened.{Listened}
+use Rattle.sdlc.specs.Sending.{tickSdlc}
+use Rattle.sdlc.specs.Within.{within, tickWithin, hearsOn, movedOn}
+use Rattle.sdlc.specs.Laws.Within.{sdlc-within, within-loaded, within-latch, inside, hear-within}
 use Rattle.sender.specs.declared.Sender.{Sender}
 use Rattle.sender.specs.declared.Sending.{Sending}
 use Rattle.sender.specs.declared.Ticked.{Ticked}
-use Rattle.sender.specs.Sender.{tickSdlc, withBreak, tick}
-use Rattle.sender.specs.Within.{within, tickWithin}
+use Rattle.sender.specs.Sender.{framerOf, byFramer, withBreak, tick}
 use Rattle.sender.specs.Laws.Tick.{tick-sdlc}
-use Rattle.sender.specs.Laws.Within.{sdlc-within, within-loaded, within-latch}
 use Rattle.settings.specs.Settings.{transmitOn, receivingOf, sendingOf}
-use Rattle.receiver.specs.declared.Receiver.{Receiver}
 use Rattle.receiver.specs.declared.Heard.{Heard}
-use Rattle.receiver.specs.State.{silent}
-use Rattle.receiver.specs.Receiver.{huntingIn, hunting}
-use Rattle.receiver.specs.Within as hearing
-use Rattle.receiver.specs.Within.{movedOn}
-use Rattle.receiver.specs.Laws.Within.{inside, hear-within}
-use Rattle.channel.specs.declared.Live.{Live}
-use Rattle.channel.specs.declared.Status.{Status}
+use Rattle.receiver.specs.Receiver.{listenerOf, listenerIn, silent, byListener, hunting}
+use Rattle.receiver.specs.Laws.Tick.{hear-sdlc}
+use Rattle.status.specs.declared.Live.{Live}
+use Rattle.status.specs.declared.Status.{Status}
 use Rattle.channel.specs.declared.Channel.{Channel}
 use Rattle.channel.specs.declared.Answer.the-variants.{Gave}
 use Rattle.channel.specs.declared.Answered.{Answered}
-use Rattle.channel.specs.Status.{changed, noticed, status}
+use Rattle.status.specs.Status.{changed, noticed, status}
 use Rattle.channel.specs.Channel.{withSender, withStatus, withTransmit, answered, liveOf, settled}
 use Rattle.channel.specs.Events.{afterTick, transmitted, transmitTick, heardBy, receiveTick}
-use Rattle.channel.specs.Within.{sendsWithin, withinByte, sentOn, tickedWithin, hearsWithin, heardWithin}
+use Rattle.channel.specs.Within.{sendsWithin, withinByte, sentOn, tickedWithin, hearsWithin}
+use Rattle.channel.specs.Within.{heardWithin}
 
 -- the status rule sees no change where there is none
 
@@ -46,25 +46,43 @@ rises-same false = refl
 
 changed-same : (l : Live) → changed l l ≡ false
 unfolding changed
-changed-same l = rw (differs-same (l .abort), rises-same (l .underrun), differs-same (l .cts), differs-same (l .hunt), differs-same (l .dcd))
+changed-same l =
+    rw (
+      differs-same (l .abort),
+      rises-same (l .underrun),
+      differs-same (l .cts),
+      differs-same (l .hunt),
+      differs-same (l .dcd),
+    )
 
 pub noticed-same : (s : Status) (l : Live) → noticed s l l ≡ s
 unfolding noticed
-noticed-same s l = by-test (λ (t : Status). t ≡ s) (s .latched) (λ e. refl) (λ e. ap (λ (b : Bool). if b then status true l else s) (changed-same l))
+noticed-same s l =
+    by-test (λ (t : Status). t ≡ s) (s .latched) (λ e. refl)
+    (λ e. ap (λ (b : Bool). if b then status true l else s) (changed-same l))
 
 pub or-none : (a b : Bool) → (a || (false && b)) ≡ a
 or-none true b = refl
 or-none false b = refl
 
--- a tick that loads nothing and leaves the latch
-pub sent-on : (c : Channel) (t : Ticked) → t .loaded ≡ false → t .sender .core .latch ≡ c .sender .core .latch → transmitted c t ≡ sentOn c t
+-- Sending: a tick that loads nothing and leaves the latch
+
+pub sent-on : (c : Channel) (t : Framed) → t .loaded ≡ false
+    → t .framer .shared .latch ≡ c .sender .shared .latch
+    → transmitted c (byFramer (c .sender) t) ≡ sentOn c t
 unfolding settled liveOf
 sent-on c t l e =
-    ap (λ (b : Bool). there (c .transmit || (b && transmitOn (c .registers .wr1))) (t .sender .core .latch)) l
-    ∙ ap (λ (m : Bool). there m (t .sender .core .latch)) (or-none (c .transmit) (transmitOn (c .registers .wr1)))
+    let latch = t .framer .shared .latch in
+    let on = transmitOn (c .registers .wr1) in
+    ap (λ (b : Bool). there (c .transmit || (b && on)) latch) l
+    ∙ ap (λ (m : Bool). there m latch) (or-none (c .transmit) on)
     ∙ ap (there (c .transmit)) e
-    ∙ ap (λ (s : Status). answered (Gave (oneIf (t .bit))) (withStatus (withSender c (t .sender)) s)) (noticed-same (c .status) (liveOf c))
+    ∙ ap (λ (s : Status). answered (Gave (oneIf (t .bit))) (withStatus (withSender c next) s))
+    (noticed-same (c .status) (liveOf c))
   where
+    next : Sender
+    next = byFramer (c .sender) t .sender
+
     live : Bool → Live
     live u = record {
       abort = c .receiver .broken;
@@ -75,7 +93,9 @@ sent-on c t l e =
     }
 
     there : Bool → Bool → Answered
-    there m u = answered (Gave (oneIf (t .bit))) (withStatus (withTransmit (withSender c (t .sender)) m) (noticed (c .status) (liveOf c) (live u)))
+    there m u =
+        answered (Gave (oneIf (t .bit)))
+        (withStatus (withTransmit (withSender c next) m) (noticed (c .status) (liveOf c) (live u)))
 
 -- what the test says
 
@@ -84,44 +104,53 @@ in-sdlc NoMode e = void e
 in-sdlc Asynchronous e = void e
 in-sdlc Sdlc e = refl
 
-pub tick-within : (g : Sending) (s : Sender) → sendsWithin g s ≡ true → tick g s ≡ tickWithin s
+pub tick-within : (g : Sending) (s : Sender) → sendsWithin g s ≡ true
+    → tick g s ≡ byFramer s (tickWithin (framerOf s))
 tick-within g s w =
-    let rest = both-right (inSdlc (g .mode)) (not (g .broken) && within s) w in
-    let off = not-true (g .broken) (both-left (not (g .broken)) (within s) rest) in
-    tick-sdlc g s (in-sdlc (g .mode) (both-left (inSdlc (g .mode)) (not (g .broken) && within s) w))
-    ∙ ap (λ (b : Bool). withBreak b (tickSdlc g s)) off
-    ∙ sdlc-within g s (both-right (not (g .broken)) (within s) rest)
+    let x = within (framerOf s) in
+    let rest = both-right (inSdlc (g .mode)) (not (g .broken) && x) w in
+    let off = not-true (g .broken) (both-left (not (g .broken)) x rest) in
+    tick-sdlc g s (in-sdlc (g .mode) (both-left (inSdlc (g .mode)) (not (g .broken) && x) w))
+    ∙ ap (λ (b : Bool). withBreak b (byFramer s (tickSdlc (g .framing) (framerOf s)))) off
+    ∙ ap (byFramer s) (sdlc-within (g .framing) (framerOf s) (both-right (not (g .broken)) x rest))
 
 pub within-tick : (c : Channel) → withinByte c ≡ true → transmitTick c ≡ tickedWithin c
 unfolding withinByte transmitTick tickedWithin
 within-tick c w =
+    let s = framerOf (c .sender) in
     ap (transmitted c) (tick-within (sendingOf (c .registers) (c .lines)) (c .sender) w)
-    ∙ sent-on c (tickWithin (c .sender)) (within-loaded (c .sender)) (within-latch (c .sender))
+    ∙ sent-on c (tickWithin s) (within-loaded s) (within-latch s)
 
 -- Receiving: a tick that hands nothing over and leaves hunt and D7
 
-hunt-kept : (m : Mode) (v : Receiver) (b : Bool) → v .content .hunt ≡ false → huntingIn m (movedOn v b) ≡ huntingIn m v
-unfolding movedOn
-hunt-kept NoMode v b e = refl
-hunt-kept Asynchronous v b e = refl
-hunt-kept Sdlc v b e = sym e
-
-heard-on : (c : Channel) (b : Bool) → c .receiver .content .hunt ≡ false → settled c (heardBy c (silent (movedOn (c .receiver) b))) ≡ heardWithin c b
+heard-on : (c : Channel) (b : Bool) → c .receiver .content .hunt ≡ false
+    → settled c (heardBy c (silent (listenerIn (c .receiver) (movedOn (listenerOf (c .receiver)) b))))
+    ≡ heardWithin c b
 unfolding settled liveOf movedOn
 heard-on c b e =
-    ap (λ (h : Bool). withStatus (heardWithin c b) (noticed (c .status) (liveOf c) (live h))) (hunt-kept (receivingOf (c .registers) (c .lines) .mode) (c .receiver) b e)
+    let g = receivingOf (c .registers) (c .lines) in
+    ap (λ (h : Bool). withStatus (heardWithin c b) (noticed (c .status) (liveOf c) (live (inSdlc (g .mode) && h))))
+    (sym e)
     ∙ ap (λ (s : Status). withStatus (heardWithin c b) s) (noticed-same (c .status) (liveOf c))
   where
     live : Bool → Live
-    live h = record { abort = c .receiver .broken; underrun = c .sender .core .latch; cts = c .lines .cts; hunt = h; dcd = c .lines .dcd }
+    live h = record {
+      abort = c .receiver .broken;
+      underrun = c .sender .shared .latch;
+      cts = c .lines .cts;
+      hunt = h;
+      dcd = c .lines .dcd;
+    }
 
 pub receive-within : (c : Channel) (b : Bool) → hearsWithin c b ≡ true → receiveTick c b ≡ heardWithin c b
 unfolding hearsWithin receiveTick
 receive-within c b w =
     let g = receivingOf (c .registers) (c .lines) in
-    let rest = both-right (inSdlc (g .mode)) (g .on && hearing.within (c .receiver) b) w in
-    let facts = inside (c .receiver) b (both-right (g .on) (hearing.within (c .receiver) b) rest) in
-    ap (λ (h : Heard). settled c (heardBy c h))
-    (hear-within g (c .receiver) b (in-sdlc (g .mode) (both-left (inSdlc (g .mode)) (g .on && hearing.within (c .receiver) b) w))
-    (both-left (g .on) (hearing.within (c .receiver) b) rest) facts)
+    let s = listenerOf (c .receiver) in
+    let x = hearsOn s b in
+    let rest = both-right (inSdlc (g .mode)) (g .on && x) w in
+    let mode = in-sdlc (g .mode) (both-left (inSdlc (g .mode)) (g .on && x) w) in
+    let facts = inside s b (both-right (g .on) x rest) in
+    ap (λ (h : Heard). settled c (heardBy c h)) (hear-sdlc g (c .receiver) b mode (both-left (g .on) x rest))
+    ∙ ap (λ (h : Listened). settled c (heardBy c (byListener (c .receiver) h))) (hear-within (g .addressing) s b facts)
     ∙ heard-on c b (facts .found)

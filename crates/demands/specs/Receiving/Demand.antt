@@ -11,15 +11,23 @@ use Rattle.common.specs.Choice.{if_then_else_}
 use Rattle.common.specs.declared.Mode.{Mode}
 use Rattle.common.specs.declared.Mode.the-variants.{Sdlc}
 use Rattle.common.specs.Mode.{inSdlc}
-use Rattle.queue.specs.declared.Entry.{Entry}
+use Rattle.entry.specs.declared.Entry.{Entry}
 use Rattle.queue.specs.declared.Queue.{Queue}
-use Rattle.queue.specs.Entry.{plainEntry}
-use Rattle.queue.specs.Queue.{room, waits, rr1, rr1Of}
-use Rattle.queue.specs.Laws.{Holds, h0, h1, h2, h3, three-empty, latches-holds, rr1-holds, none-waits}
+use Rattle.entry.specs.Entry.{plainEntry}
+use Rattle.queue.specs.Queue.{room, waits, rr1}
+use Rattle.entry.specs.Entry.{rr1Of}
+use Rattle.queue.specs.Laws.{three-empty, latches-holds, rr1-holds, none-waits}
+use Rattle.queue.specs.Holding.{Holds, h0, h1, h2, h3}
+use Rattle.asynchronous.specs.Sending.{underWay}
+use Rattle.sdlc.specs.declared.Addressing.{Addressing}
+use Rattle.sdlc.specs.declared.Listener.{Listener}
+use Rattle.sdlc.specs.Hearing.{pastFlag}
+use Rattle.frames.specs.Heard.{Final, final, before, hearAll, past-flag}
+use Rattle.frames.specs.Frames.{ended, allEnded}
+use Rattle.line.specs.Frame.{withCheck}
+use Rattle.frames.specs.Laws.Bytes.{withCheck-length}
+use Rattle.frames.specs.Laws.Frames.{unaddressed, frame-heard, notes-heard}
 use Rattle.receiver.specs.declared.Receiving.{Receiving}
-use Rattle.receiver.specs.declared.Receiver.{Receiver}
-use Rattle.receiver.specs.Sdlc.{past}
-use Rattle.sender.specs.Sender.{underWay}
 use Rattle.settings.specs.Settings.{sendingOf, receivingOf}
 use Rattle.channel.specs.declared.Channel.{Channel}
 use Rattle.channel.specs.declared.Answer.the-variants.{Gave}
@@ -30,27 +38,43 @@ use Rattle.chip.specs.Chip.{controlReadCall}
 use Rattle.chip.specs.Event.{Event, ControlRead}
 use Rattle.stories.specs.Story.{Which, A, B, number, chan, happens, after}
 use Rattle.stories.specs.Received.{role, bitIn, bitsOf, valuesOf, tookOf, bytesOf, goodEnd, noEnd}
-use Rattle.demands.specs.Receiving.Statement.{Side, sideOf, past-flag, Listening, Fed, over, hears, reads, still, withCheck, ended, Received, Demand2, Moment, Always2, Mark2, Notes2, allEnded}
-use Rattle.demands.specs.Receiving.Bytes.{withCheck-length}
-use Rattle.demands.specs.Receiving.Heard.{Final, final, before, hearAll}
-use Rattle.demands.specs.Receiving.Frame.{listening, frame-heard, notes-heard}
-use Rattle.demands.specs.Receiving.Side.{bytes-append, values-are}
+use Rattle.demands.specs.Receiving.Statement.{Side, sideOf, Listening, Fed, over, hears, reads}
+use Rattle.demands.specs.Receiving.Statement.{still, Received, Demand2, Moment, Always2, Mark2}
+use Rattle.demands.specs.Receiving.Statement.{Notes2}
+use Rattle.demands.specs.Receiving.Side.{Hearing, bytes-append, values-are}
 use Rattle.demands.specs.Receiving.Conserved.{Conserved, conserved}
 
-settings-are : (x : Side) → Listening x → x .settings ≡ listening (x .settings)
-settings-are x l = let g = x .settings in λ i. record { mode = l .mode i; on = l .on i; search = l .search i; address = g .address; length = g .length; parity = g .parity; even = g .even }
+-- SDLC and on; address search off
+hearing : (x : Side) → Listening x → Hearing (x .settings)
+hearing x l = record { mode = l .mode; on = l .on }
+
+abbrev pub addressOf : Side → ℕ
+addressOf x = x .settings .addressing .address
+
+addressing-is : (x : Side) → Listening x → unaddressed (addressOf x) ≡ x .settings .addressing
+addressing-is x l = λ i. record { search = sym (l .search) i; address = addressOf x }
 
 -- A story in which the receiver, as it is set, would hear these entries out of the story's bits and the rest
-module _ (w : Which) (c : Chip) (st : List Event) (rest : List Bool) (es : List Entry) (l : Listening (sideOf w c)) (f : Fed w c st)
-    (e : hearAll (listening (sideOf w c .settings)) (chan w c .receiver) (bitsOf w st ++ rest) ≡ final (past (chan w c .receiver)) es) where
+module _ (w : Which) (c : Chip) (st : List Event) (rest : List Bool) (es : List Entry)
+    (l : Listening (sideOf w c)) (f : Fed w c st)
+    (e : hearAll (unaddressed (addressOf (sideOf w c))) (sideOf w c .listener) (bitsOf w st ++ rest) ≡ final pastFlag es) where
   abbrev x : Side
   x = sideOf w c
 
-  kept : Conserved w c st (x .receiver) (x .settings) [] (x .queue .parity) (x .queue .overrun)
-  kept = conserved w f (x .receiver) (x .queue) (x .settings) [] (l .mode) refl (three-empty (x .queue .entries) (x .queue .count) (x .queue .parity) (x .queue .overrun) (l .three) (l .empty))
+  abbrev g : Addressing
+  g = x .settings .addressing
 
-  whole : final (past (x .receiver)) es ≡ before (tookOf w c st ++ kept .waiting) (hearAll (x .settings) (kept .last) rest)
-  whole = sym e ∙ ap (λ (g : Receiving). hearAll g (x .receiver) (bitsOf w st ++ rest)) (sym (settings-are x l)) ∙ kept .whole rest
+  kept : Conserved w c st (x .listener) (x .settings) [] (x .queue .parity) (x .queue .overrun)
+  kept =
+      let q = x .queue in
+      conserved w f (x .listener) q (x .settings) [] (hearing x l) refl
+      (three-empty (q .entries) (q .count) (q .parity) (q .overrun) (l .three) (l .empty))
+
+  whole : final pastFlag es ≡ before (tookOf w c st ++ kept .waiting) (hearAll g (kept .last) rest)
+  whole =
+      sym e
+      ∙ ap (λ (a : Addressing). hearAll a (x .listener) (bitsOf w st ++ rest)) (addressing-is x l)
+      ∙ kept .whole rest
 
   held : Holds (x .queue .parity) (x .queue .overrun) (chan w (after c st) .queue) (kept .waiting)
   held = rw (ap (λ (y : Side). y .queue) (kept .there)) (kept .holds)
@@ -58,25 +82,32 @@ module _ (w : Which) (c : Chip) (st : List Event) (rest : List Bool) (es : List 
   moment : Moment w c st es
   moment = record {
     waiting = kept .waiting;
-    later = hearAll (x .settings) (kept .last) rest .got;
+    later = hearAll g (kept .last) rest .got;
     holds = held;
-    marks = sym (append-assoc (tookOf w c st) (kept .waiting) (hearAll (x .settings) (kept .last) rest .got)) ∙ sym (ap (λ (y : Final). y .got) whole);
+    marks = sym (append-assoc (tookOf w c st) (kept .waiting) (hearAll g (kept .last) rest .got))
+        ∙ sym (ap (λ (y : Final). y .got) whole);
     stays = ap (λ (y : Side). y .settings) (kept .there);
   }
 
-pub received-all : (w : Which) (c : Chip) (st : List Event) (es : List Entry) → Listening (sideOf w c) → Fed w c st
-    → hearAll (listening (sideOf w c .settings)) (chan w c .receiver) (bitsOf w st) ≡ final (past (chan w c .receiver)) es → Received w c st (bytesOf es) es
+pub received-all : (w : Which) (c : Chip) (st : List Event) (es : List Entry) → Listening (sideOf w c)
+    → Fed w c st
+    → hearAll (unaddressed (addressOf (sideOf w c))) (sideOf w c .listener) (bitsOf w st) ≡ final pastFlag es
+    → Received w c st (bytesOf es) es
 unfolding hearAll
 received-all w c st es l f h =
-    let e = ap (hearAll (listening (sideOf w c .settings)) (chan w c .receiver)) (append-nil (bitsOf w st)) ∙ h in
+    let g = unaddressed (addressOf (sideOf w c)) in
+    let e = ap (hearAll g (sideOf w c .listener)) (append-nil (bitsOf w st)) ∙ h in
     let k = kept w c st [] es l f e in
-    let m : tookOf w c st ++ k .waiting ≡ es = sym (append-nil (tookOf w c st ++ k .waiting)) ∙ sym (ap (λ (y : Final). y .got) (whole w c st [] es l f e)) in
+    let all = whole w c st [] es l f e in
+    let m : tookOf w c st ++ k .waiting ≡ es =
+    sym (append-nil (tookOf w c st ++ k .waiting)) ∙ sym (ap (λ (y : Final). y .got) all) in
     record {
       waiting = k .waiting;
       holds = held w c st [] es l f e;
-      values = ap (λ (y : List ℕ). y ++ bytesOf (k .waiting)) (sym (values-are w c st)) ∙ sym (bytes-append (tookOf w c st) (k .waiting)) ∙ ap bytesOf m;
+      values = ap (λ (y : List ℕ). y ++ bytesOf (k .waiting)) (sym (values-are w c st))
+          ∙ sym (bytes-append (tookOf w c st) (k .waiting)) ∙ ap bytesOf m;
       marks = m;
-      ready = ap (λ (y : Side). y .receiver) (k .there) ∙ sym (ap (λ (y : Final). y .receiver) (whole w c st [] es l f e));
+      ready = ap (λ (y : Side). y .listener) (k .there) ∙ sym (ap (λ (y : Final). y .listener) all);
       stays = ap (λ (y : Side). y .settings) (k .there);
     }
 
@@ -87,18 +118,21 @@ ended-bytes bad (v ∷ []) = refl
 ended-bytes bad (v ∷ x ∷ vs) = ap (λ (l : List ℕ). v ∷ l) (ended-bytes bad (x ∷ vs))
 
 -- the same where the entries are those of some bytes
-pub received-bytes : (w : Which) (c : Chip) (st : List Event) (bad : Bool) (bytes : List ℕ) → Listening (sideOf w c) → Fed w c st
-    → hearAll (listening (sideOf w c .settings)) (chan w c .receiver) (bitsOf w st) ≡ final (past (chan w c .receiver)) (ended bad bytes)
-    → Received w c st bytes (ended bad bytes)
+pub received-bytes : (w : Which) (c : Chip) (st : List Event) (bad : Bool) (bytes : List ℕ)
+    → Listening (sideOf w c) → Fed w c st
+    → hearAll (unaddressed (addressOf (sideOf w c))) (sideOf w c .listener) (bitsOf w st)
+    ≡ final pastFlag (ended bad bytes) → Received w c st bytes (ended bad bytes)
 received-bytes w c st bad bytes l f h =
-    subst (λ (vs : List ℕ). Received w c st vs (ended bad bytes)) (ended-bytes bad bytes) (received-all w c st (ended bad bytes) l f h)
+    subst (λ (vs : List ℕ). Received w c st vs (ended bad bytes)) (ended-bytes bad bytes)
+    (received-all w c st (ended bad bytes) l f h)
 
 -- DEMAND 2
 pub demand2 : Demand2
 demand2 w c st note l n b f e =
-    let g = sideOf w c .settings in
-    let s = chan w c .receiver in
-    received-bytes w c st false (withCheck note) l f (ap (hearAll (listening g) s) e ∙ frame-heard g s note n (l .start) b)
+    let a = addressOf (sideOf w c) in
+    let s = sideOf w c .listener in
+    received-bytes w c st false (withCheck note) l f
+    (ap (hearAll (unaddressed a) s) e ∙ frame-heard a s note n (l .start) b)
 
 -- once all is read the channel listens as it did: the next frame may follow
 holds-three : {p o : Bool} {q : Queue} {es : List Entry} → Holds p o q es → length (q .entries) ≡ room
@@ -112,18 +146,18 @@ pub listens-again : (w : Which) (c : Chip) (st : List Event) (bytes : List ℕ) 
 listens-again w c st bytes es l r n = record {
   mode = ap (λ (g : Receiving). g .mode) (r .stays) ∙ l .mode;
   on = ap (λ (g : Receiving). g .on) (r .stays) ∙ l .on;
-  search = ap (λ (g : Receiving). g .search) (r .stays) ∙ l .search;
+  search = ap (λ (g : Receiving). g .addressing .search) (r .stays) ∙ l .search;
   empty = n;
   three = holds-three (r .holds);
-  start = past-flag (ap (λ (s : Receiver). s .content) (r .ready));
+  start = past-flag (ap (λ (s : Listener). s .content) (r .ready)) (ap (λ (s : Listener). s .check) (r .ready));
 }
 
 -- several notes
 pub notes2 : Notes2
 notes2 w c st ns l n f e =
-    let g = sideOf w c .settings in
-    let s = chan w c .receiver in
-    received-all w c st (allEnded ns) l f (ap (hearAll (listening g) s) e ∙ notes-heard g s (l .start) n)
+    let a = addressOf (sideOf w c) in
+    let s = sideOf w c .listener in
+    received-all w c st (allEnded ns) l f (ap (hearAll (unaddressed a) s) e ∙ notes-heard a s (l .start) n)
 
 -- Every moment
 
@@ -140,10 +174,10 @@ bits-join w (x ∷ xs) ys = ap (λ (l : List Bool). bitIn (role w x) ++ l) (bits
 
 pub always2 : Always2
 always2 w c xs ys note l n b f e =
-    let g = sideOf w c .settings in
-    let s = chan w c .receiver in
+    let a = addressOf (sideOf w c) in
+    let s = sideOf w c .listener in
     moment w c xs (bitsOf w ys) (ended false (withCheck note)) l (fed-front w xs ys f)
-    (ap (hearAll (listening g) s) (sym (bits-join w xs ys) ∙ e) ∙ frame-heard g s note n (l .start) b)
+    (ap (hearAll (unaddressed a) s) (sym (bits-join w xs ys) ∙ e) ∙ frame-heard a s note n (l .start) b)
 
 -- the overrun latch is as it was: no overrun was marked
 pub overrun-kept : (w : Which) (c : Chip) (st : List Event) (es : List Entry) → Moment w c st es → chan w (after c st) .queue .overrun ≡ chan w c .queue .overrun
@@ -206,7 +240,7 @@ rr1-shows w c st vs p o m t = go (m .waiting) (m .holds) (m .marks)
 rr1-in : (c : Channel) (pending : Bool) (vector : ℕ) → c .pointer ≡ 1 → receivingOf (c .registers) (c .lines) .mode ≡ Sdlc → readRegister c pending vector ≡ rr1 (c .queue) true
 unfolding readRegister rr1Now receivingOf sendingOf
 rr1-in c pending vector p d =
-    rw p (ap (λ (k : Mode). rr1 (c .queue) (inSdlc k || (not (underWay (c .sender .unit)) && not (c .sender .core .full)))) d)
+    rw p (ap (λ (k : Mode). rr1 (c .queue) (inSdlc k || (not (underWay (c .sender .character)) && not (c .sender .shared .full)))) d)
 
 rr1-read : (w : Which) (c : Chip) → chan w c .pointer ≡ 1 → sideOf w c .settings .mode ≡ Sdlc → happens c (ControlRead (number w)) .answer ≡ Gave (rr1 (chan w c .queue) true)
 unfolding controlReadCall

@@ -8,29 +8,21 @@ use native.Mathlib.Omega.{arith}
 use lib.Dec.{eqb}
 use lib.ListN.{length}
 use Rattle.common.specs.Choice.{if_then_else_}
-use Rattle.line.specs.Bits.{lowBits, textBits}
-use Rattle.line.specs.Check.{checkStep, checkOver, topBits, checkBits}
-use Rattle.line.specs.Insertion.{stuff}
 use Rattle.line.specs.Frame.{flagBits, contentOf, frame}
-use Rattle.line.specs.Laws.Bits.{fromLow, none, more}
-use Rattle.queue.specs.Queue.{pushed, taken, oldest, waits, rr1, special}
-use Rattle.sender.specs.Sender as sender
-use Rattle.receiver.specs.Sdlc.{accept, push, one, zeroBit}
-use Rattle.receiver.specs.Receiver.{hear}
-use Rattle.settings.specs.Settings.{modeOf, notBuilt, lengthOf, sendingOf, receivingOf}
+use Rattle.line.specs.Bits.{below-none as none, below-more as more}
+use Rattle.queue.specs.Queue.{waits}
 use Rattle.channel.specs.declared.Answer.the-variants.{Gave}
-use Rattle.channel.specs.Status.{changed, noticed, afresh}
-use Rattle.channel.specs.Channel.{liveOf, settled}
-use Rattle.channel.specs.Control.{commanded, preset, commandStep, presetStep, writeWr0, setWr4, setRegister, controlWritten, rr0, rr1Now, readRegister}
-use Rattle.channel.specs.Events.{dataRead, transmitTick, receiveTick, linesSet, specialWaits, receivePending, pendingIn}
+use Rattle.chip.specs.Computing.{computing}
 use Rattle.chip.specs.declared.Chip.{Chip}
-use Rattle.chip.specs.Interrupts.{highestOf, pendingLevel, serviceLevel, anyPending, codeOf, vectorFor, rr2, serving, atLevel, mayTake, acknowledge, reti}
-use Rattle.chip.specs.Chip.{controlWriteA, controlWrite, controlReadCall, dataWriteCall, dataReadCall, transmitCall, receiveCall, linesCall}
 use Rattle.chip.specs.Event.{Event, ControlWrite, ControlRead, DataRead}
 use Rattle.stories.specs.Story.{A, chan, happens, after}
 use Rattle.stories.specs.Received.{bitsOf, valuesOf, bytesOf, goodEnd, noEnd}
 use Rattle.stories.specs.Receiving.{listening, story, noise, noisy, unread, named, unflipped, flippedLine, told}
-use Rattle.demands.specs.Receiving.Statement.{sideOf, Listening, in-hunt, checkBytes, withCheck, ended, Received, Moment, framesOf, allEnded, no-more, one-more, framed, Found}
+use Rattle.frames.specs.Heard.{in-hunt}
+use Rattle.frames.specs.Frames.{ended, betweenFlags, framesOf, allEnded}
+use Rattle.line.specs.Frame.{checkBytes, withCheck}
+use Rattle.frames.specs.Frames.{no-more, one-more}
+use Rattle.demands.specs.Receiving.Statement.{sideOf, Listening, Received, Moment, Found}
 use Rattle.demands.specs.Receiving.Room.{inRoom, fed, demand2-run}
 use Rattle.demands.specs.Receiving.Demand.{listens-again, notes2, always2, overrun-kept, mark2}
 use Rattle.demands.specs.Receiving.Flip.{flipped2}
@@ -73,10 +65,10 @@ pub record Examples : Type 0 where
   pub twice-bits : bitsOf A twice ≡ flagBits ++ framesOf notes
   pub content : contentOf (0xFF ∷ []) ≡ true ∷ unflipped
   pub flipped-room : inRoom A begin flipped ≡ true
-  pub flipped-bits : bitsOf A flipped ≡ framed (false ∷ unflipped)
+  pub flipped-bits : bitsOf A flipped ≡ betweenFlags (false ∷ unflipped)
 
 pub examples : Examples
-unfolding inRoom bitsOf valuesOf framesOf story checkBytes fromLow stuff textBits lowBits checkOver checkStep checkBits topBits after controlWriteA controlWrite controlReadCall dataWriteCall dataReadCall transmitCall receiveCall linesCall highestOf pendingLevel serviceLevel anyPending codeOf vectorFor rr2 serving atLevel mayTake acknowledge reti liveOf settled commanded preset commandStep presetStep writeWr0 setWr4 setRegister controlWritten rr0 rr1Now readRegister dataRead transmitTick receiveTick linesSet specialWaits receivePending pendingIn changed noticed afresh sender.following sender.going sender.tickSdlc sender.tick hear one zeroBit push accept pushed taken oldest rr1 special modeOf notBuilt lengthOf sendingOf receivingOf
+unfolding computing inRoom bitsOf valuesOf framesOf story checkBytes after
 examples = record {
   listens = record { mode = refl; on = refl; search = refl; empty = refl; three = refl; start = in-hunt refl };
   room = refl;

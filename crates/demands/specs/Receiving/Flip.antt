@@ -8,25 +8,27 @@ use lib.ListN.{length, length-append}
 use borrow.Author.Tests.{ne-eqb}
 use Rattle.line.specs.Check.{sdlc, ones, checkOver, remainder}
 use Rattle.line.specs.Frame.{noteBits}
-use Rattle.line.specs.Laws.Bits.{Below}
+use Rattle.line.specs.Bits.{Below}
 use Rattle.line.specs.Laws.Frame.{content-length, content-good}
 use Rattle.chip.specs.declared.Chip.{Chip}
 use Rattle.chip.specs.Event.{Event}
 use Rattle.stories.specs.Story.{Which, chan}
 use Rattle.stories.specs.Received.{bitsOf}
-use Rattle.demands.specs.Receiving.Statement.{sideOf, Listening, Fed, ended, Received, framed, Flipped2}
-use Rattle.demands.specs.Receiving.Bytes.{of-bits, flip-found}
-use Rattle.demands.specs.Receiving.Heard.{hearAll}
-use Rattle.demands.specs.Receiving.Frame.{listening, badIf, bytes-heard}
-use Rattle.demands.specs.Receiving.Demand.{received-bytes}
+use Rattle.frames.specs.Heard.{hearAll}
+use Rattle.frames.specs.Frames.{ended, betweenFlags}
+use Rattle.frames.specs.Laws.Bytes.{of-bits, flip-found}
+use Rattle.frames.specs.Laws.Frames.{unaddressed, badIf, bytes-heard}
+use Rattle.demands.specs.Receiving.Statement.{sideOf, Listening, Fed, Received, Flipped2}
+use Rattle.demands.specs.Receiving.Demand.{addressOf, received-bytes}
 
 -- any whole bytes between flags, at least one
 pub bytes2 : (w : Which) (c : Chip) (st : List Event) (bytes : List ℕ) → Listening (sideOf w c) → 1 ≤ length bytes → Below 256 bytes → Fed w c st
-    → bitsOf w st ≡ framed (noteBits bytes) → Received w c st bytes (ended (badIf (checkOver sdlc ones (noteBits bytes))) bytes)
+    → bitsOf w st ≡ betweenFlags (noteBits bytes) → Received w c st bytes (ended (badIf (checkOver sdlc ones (noteBits bytes))) bytes)
 bytes2 w c st bytes l n b f e =
-    let g = sideOf w c .settings in
-    let s = chan w c .receiver in
-    received-bytes w c st (badIf (checkOver sdlc ones (noteBits bytes))) bytes l f (ap (hearAll (listening g) s) e ∙ bytes-heard g s bytes n (l .start) b)
+    let a = addressOf (sideOf w c) in
+    let s = sideOf w c .listener in
+    received-bytes w c st (badIf (checkOver sdlc ones (noteBits bytes))) bytes l f
+    (ap (hearAll (unaddressed a) s) e ∙ bytes-heard a s bytes n (l .start) b)
 
 pub flipped2 : Flipped2
 flipped2 w c st note xs ys b l f e h =
@@ -39,5 +41,5 @@ flipped2 w c st note xs ys b l f e h =
       bytes = k .bytes;
       count = k .count;
       given = subst (λ (t : Bool). Received w c st (k .bytes) (ended t (k .bytes))) bad
-          (bytes2 w c st (k .bytes) l (omega (arith, k .count)) (k .fit) f (h ∙ ap framed (sym (k .are))));
+          (bytes2 w c st (k .bytes) l (omega (arith, k .count)) (k .fit) f (h ∙ ap betweenFlags (sym (k .are))));
     }

@@ -2,14 +2,18 @@
 use mathlib.Core.Path.{_≡_, refl, sym, ap, _∙_}
 use mathlib.Core.Bool.{Bool, true, false, not, _&&_, _||_}
 use Prim.Native.Nat.{ℕ, _/_}
-use lib.Dec.{eqb, ltb, leb}
+use lib.Dec.{eqb, leb}
 use Rattle.common.specs.Choice.{if_then_else_}
 use Rattle.common.specs.Tools.{by-test, if-elim, void, both-left, both-right}
 use Rattle.line.specs.Bits.{odd}
 use Rattle.line.specs.Check.{differs}
-use Rattle.settings.specs.Settings.{store5, store6, store7, commandIn, presetIn, autoEnables, modeOf, lengthOf, notBuilt, receivingOf}
+use Rattle.interrupts.specs.declared.Six.{Six}
+use Rattle.interrupts.specs.Interrupts.{acknowledged, ended}
+use Rattle.receiver.specs.Receiver.{listenerOf}
+use Rattle.settings.specs.Settings.{store5, store6, store7, commandIn, presetIn, autoEnables, modeOf}
+use Rattle.settings.specs.Settings.{formatOf, notBuilt, receivingOf}
 use Rattle.channel.specs.declared.Side as channel
-use Rattle.channel.specs.declared.Side.the-variants as side
+use Rattle.channel.specs.declared.Side.the-variants as channels
 use Rattle.channel.specs.declared.Channel.{Channel}
 use Rattle.channel.specs.declared.Answered.{Answered}
 use Rattle.channel.specs.Channel.{withRegisters, settled}
@@ -17,13 +21,12 @@ use Rattle.channel.specs.Control.{commanded, preset, commandStep, presetStep, w
 use Rattle.channel.specs.Events.{transmitTick, linesSet}
 use Rattle.chip.specs.declared.Chip.{Chip}
 use Rattle.chip.specs.declared.Outcome.{Outcome}
-use Rattle.chip.specs.declared.Acknowledged.{Acknowledged}
-use Rattle.chip.specs.Interrupts.{none, serviceLevel, pendingLevel, serving, atLevel, mayTake, acknowledge, reti}
-use Rattle.chip.specs.Chip.{byChannel, endsService, controlWriteA, controlWrite, controlReadCall, dataWriteCall, dataReadCall, transmitCall, onLevel, receiveCall, linesCall}
+use Rattle.chip.specs.Interrupts.{pendingOf, serviceOf, inService, acknowledge, reti}
+use Rattle.chip.specs.Chip.{inA, inB, byChannel, serviceBy, controlWriteA, controlWrite, controlReadCall, dataWriteCall, dataReadCall, transmitCall, onLevel, receiveCall, linesCall}
 use Rattle.chip.specs.Event.{Event, HardReset, ControlWrite, ControlRead, DataWrite, DataRead, Transmit, Receive, SetLines, Acknowledge, Reti}
 use Rattle.stories.specs.Story.{Which, A, B, chan, happens}
 use Rattle.stories.specs.Received.{here}
-use Rattle.demands.specs.Receiving.Statement.{sideIn, sideOf}
+use Rattle.demands.specs.Receiving.Statement.{side, sideIn, sideOf}
 use Rattle.demands.specs.Receiving.Tools.{refused-test, or-right}
 
 -- The test
@@ -87,8 +90,8 @@ wr1-kept c v = refl
 
 wr2-kept : (c : Channel) (w : channel.Side) (v : ℕ) → KeptIn c (setWr2 c w v)
 unfolding receivingOf
-wr2-kept c side.A v = refl
-wr2-kept c side.B v = refl
+wr2-kept c channels.A v = refl
+wr2-kept c channels.B v = refl
 
 wr5-kept : (c : Channel) (v : ℕ) → KeptIn c (withRegisters c (store5 (c .registers) v))
 unfolding receivingOf
@@ -141,19 +144,12 @@ lines-kept : (c : Channel) (d t : Bool) → quietLines c d ≡ true → KeptIn c
 unfolding linesSet settled receivingOf
 lines-kept c d t q =
     let r = c .registers in
-    ap (λ (b : Bool). record {
-      receiver = c .receiver;
-      queue = c .queue;
-      settings = record {
-        mode = modeOf (r .wr4);
-        on = odd (r .wr3) && b;
-        search = odd (r .wr3 / 4);
-        address = r .wr6;
-        length = lengthOf (r .wr3 / 64);
-        parity = odd (r .wr4);
-        even = odd (r .wr4 / 2);
-      };
-    }) (still-on (autoEnables r) d (c .lines .dcd) q)
+    ap (λ (b : Bool). side (listenerOf (c .receiver)) (c .queue) (record {
+      mode = modeOf (r .wr4);
+      on = odd (r .wr3) && b;
+      addressing = record { search = odd (r .wr3 / 4); address = r .wr6 };
+      format = formatOf r (r .wr3 / 64);
+    })) (still-on (autoEnables r) d (c .lines .dcd) q)
 
 -- The chip's events
 
@@ -175,36 +171,23 @@ call-kept : (w : Which) (c : Chip) (ch : ℕ) (a b : Outcome) → (here w ch ≡
 call-kept A c ch a b p q = by-test (KeptBy A c) (eqb ch 0) p (λ t. if-elim (KeptBy A c) (eqb ch 1) q refl)
 call-kept B c ch a b p q = if-elim (KeptBy B c) (eqb ch 0) q (by-test (KeptBy B c) (eqb ch 1) p (λ t. refl))
 
--- a source goes into service or out of it: side and pointer stay
-record Served (w : Which) (c d : Chip) : Type 0 where
-  kept : Kept w c d
-  pointer : chan w d .pointer ≡ chan w c .pointer
-
-level-served : (w : Which) (c : Chip) (level : ℕ) (t : Bool) → Served w c (atLevel c level t)
-unfolding atLevel serving
-level-served A c level t = if-elim (Served A c) (ltb level 3) (record { kept = refl; pointer = refl }) (record { kept = refl; pointer = refl })
-level-served B c level t = if-elim (Served B c) (ltb level 3) (record { kept = refl; pointer = refl }) (record { kept = refl; pointer = refl })
-
-reti-served : (w : Which) (c : Chip) → Served w c (reti c)
-unfolding reti
-reti-served w c = if-elim (Served w c) (ltb (serviceLevel c) none) (level-served w c (serviceLevel c) false) (record { kept = refl; pointer = refl })
+-- sources go into service or out of it
+service-kept : (w : Which) (c : Chip) (s : Six) → Kept w c (inService c s)
+service-kept A c s = refl
+service-kept B c s = refl
 
 write-own : (c : Chip) (v : ℕ) → quietWrite (c .a .pointer) v ≡ true → KeptBy A c (controlWriteA c v)
 unfolding controlWriteA
-write-own c v q =
-    let r = reti-served A c in
-    if-elim (KeptBy A c) (endsService (c .a) v)
-    (written-kept (reti c .a) side.A v (ap (λ (p : ℕ). quietWrite p v) (r .pointer) ∙ q) ∙ r .kept)
-    (written-kept (c .a) side.A v q)
+write-own c v q = written-kept (inService c (serviceBy c v) .a) channels.A v q
 
 write-other : (c : Chip) (v : ℕ) → KeptBy B c (controlWriteA c v)
 unfolding controlWriteA
-write-other c v = if-elim (KeptBy B c) (endsService (c .a) v) (reti-served B c .kept) refl
+write-other c v = refl
 
 write-kept : (w : Which) (c : Chip) (ch v : ℕ) → quiet w c (ControlWrite ch v) ≡ true → KeptBy w c (controlWrite c ch v)
 unfolding controlWrite
 write-kept A c ch v q = call-kept A c ch _ _ (λ t. write-own c v (or-right (here A ch) (quietWrite (c .a .pointer) v) q t)) refl
-write-kept B c ch v q = call-kept B c ch _ _ (λ t. written-kept (c .b) side.B v (or-right (here B ch) (quietWrite (c .b .pointer) v) q t)) (write-other c v)
+write-kept B c ch v q = call-kept B c ch _ _ (λ t. written-kept (c .b) channels.B v (or-right (here B ch) (quietWrite (c .b .pointer) v) q t)) (write-other c v)
 
 read-kept : (w : Which) (c : Chip) (ch : ℕ) → KeptBy w c (controlReadCall c ch)
 unfolding controlReadCall
@@ -229,26 +212,25 @@ transmit-kept B c ch = call-kept B c ch _ _ (λ t. refl) refl
 receive-kept : (w : Which) (c : Chip) (ch bit : ℕ) → not (here w ch) || leb 2 bit ≡ true → KeptBy w c (receiveCall c ch bit)
 unfolding receiveCall
 receive-kept A c ch bit q =
-    call-kept A c ch _ _ (λ t. by-test (KeptBy A c) (leb 2 bit) (λ u. refl) (λ u. void (sym u ∙ or-right (here A ch) (leb 2 bit) q t))) (if-elim (KeptBy A c) (leb 2 bit) refl refl)
+    call-kept A c ch _ _ (λ t. by-test (λ (x : Answered). KeptBy A c (inA c x)) (leb 2 bit) (λ u. refl)
+    (λ u. void (sym u ∙ or-right (here A ch) (leb 2 bit) q t))) refl
 receive-kept B c ch bit q =
-    call-kept B c ch _ _ (λ t. by-test (KeptBy B c) (leb 2 bit) (λ u. refl) (λ u. void (sym u ∙ or-right (here B ch) (leb 2 bit) q t))) (if-elim (KeptBy B c) (leb 2 bit) refl refl)
+    call-kept B c ch _ _ (λ t. by-test (λ (x : Answered). KeptBy B c (inB c x)) (leb 2 bit) (λ u. refl)
+    (λ u. void (sym u ∙ or-right (here B ch) (leb 2 bit) q t))) refl
 
 set-lines-kept : (w : Which) (c : Chip) (ch dcd cts : ℕ) → not (here w ch) || quietLines (chan w c) (onLevel dcd) ≡ true → KeptBy w c (linesCall c ch dcd cts)
 unfolding linesCall
 set-lines-kept A c ch dcd cts q =
     call-kept A c ch _ _
-    (λ t. if-elim (KeptBy A c) (leb 2 dcd || leb 2 cts) refl (lines-kept (c .a) (onLevel dcd) (onLevel cts) (or-right (here A ch) (quietLines (c .a) (onLevel dcd)) q t)))
-    (if-elim (KeptBy A c) (leb 2 dcd || leb 2 cts) refl refl)
+    (λ t. if-elim (λ (x : Answered). KeptBy A c (inA c x)) (leb 2 dcd || leb 2 cts) refl (lines-kept (c .a) (onLevel dcd) (onLevel cts) (or-right (here A ch) (quietLines (c .a) (onLevel dcd)) q t)))
+    refl
 set-lines-kept B c ch dcd cts q =
     call-kept B c ch _ _
-    (λ t. if-elim (KeptBy B c) (leb 2 dcd || leb 2 cts) refl (lines-kept (c .b) (onLevel dcd) (onLevel cts) (or-right (here B ch) (quietLines (c .b) (onLevel dcd)) q t)))
-    (if-elim (KeptBy B c) (leb 2 dcd || leb 2 cts) refl refl)
-
-acknowledge-kept : (w : Which) (c : Chip) → Kept w c (acknowledge c .chip)
-unfolding acknowledge
-acknowledge-kept w c = if-elim (λ (x : Acknowledged). Kept w c (x .chip)) (mayTake c) (level-served w c (pendingLevel c) true .kept) refl
+    (λ t. if-elim (λ (x : Answered). KeptBy B c (inB c x)) (leb 2 dcd || leb 2 cts) refl (lines-kept (c .b) (onLevel dcd) (onLevel cts) (or-right (here B ch) (quietLines (c .b) (onLevel dcd)) q t)))
+    refl
 
 pub quiet-keeps : (w : Which) (c : Chip) (e : Event) → quiet w c e ≡ true → sideOf w (happens c e .chip) ≡ sideOf w c
+unfolding acknowledge reti
 quiet-keeps w c HardReset q = void q
 quiet-keeps w c (ControlWrite ch v) q = write-kept w c ch v q
 quiet-keeps w c (ControlRead ch) q = read-kept w c ch
@@ -257,5 +239,5 @@ quiet-keeps w c (DataRead ch) q = data-read-kept w c ch q
 quiet-keeps w c (Transmit ch) q = transmit-kept w c ch
 quiet-keeps w c (Receive ch bit) q = receive-kept w c ch bit q
 quiet-keeps w c (SetLines ch dcd cts) q = set-lines-kept w c ch dcd cts q
-quiet-keeps w c Acknowledge q = acknowledge-kept w c
-quiet-keeps w c Reti q = reti-served w c .kept
+quiet-keeps w c Acknowledge q = service-kept w c (acknowledged (pendingOf c) (serviceOf c))
+quiet-keeps w c Reti q = service-kept w c (ended (serviceOf c))

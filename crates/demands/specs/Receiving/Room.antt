@@ -6,12 +6,15 @@ use Prim.Native.Nat.{ℕ, _≤_}
 use lib.ListN.{length}
 use Rattle.common.specs.Tools.{both-left, both-right}
 use Rattle.line.specs.Frame.{frame}
-use Rattle.line.specs.Laws.Bits.{Below}
+use Rattle.line.specs.Bits.{Below}
 use Rattle.chip.specs.declared.Chip.{Chip}
 use Rattle.chip.specs.Event.{Event}
 use Rattle.stories.specs.Story.{Which, happens}
 use Rattle.stories.specs.Received.{Role, Hears, Reads, Else, role, bitsOf}
-use Rattle.demands.specs.Receiving.Statement.{sideOf, Listening, roomy, Fed, over, hears, reads, still, withCheck, ended, Received}
+use Rattle.frames.specs.Frames.{ended}
+use Rattle.line.specs.Frame.{withCheck}
+use Rattle.demands.specs.Receiving.Statement.{sideOf, Listening, roomy, Fed, over, hears, reads}
+use Rattle.demands.specs.Receiving.Statement.{still, Received}
 use Rattle.demands.specs.Receiving.Demand.{demand2}
 use Rattle.demands.specs.Receiving.Quiet.{quiet, quiet-keeps}
 

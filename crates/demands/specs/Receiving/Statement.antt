@@ -9,20 +9,20 @@ use lib.Dec.{eqb, ltb}
 use lib.ListN.{length, take, drop}
 use Rattle.common.specs.Choice.{if_then_else_}
 use Rattle.common.specs.declared.Mode.the-variants.{Sdlc}
-use Rattle.line.specs.Insertion.{stuff}
-use Rattle.line.specs.Check.{checkBits}
-use Rattle.line.specs.Frame.{flagBits, checkOf, contentOf, frame}
-use Rattle.line.specs.Laws.Bits.{fromLow, Below}
-use Rattle.queue.specs.declared.Entry.{Entry}
+use Rattle.line.specs.Frame.{flagBits, contentOf, frame}
+use Rattle.line.specs.Bits.{Below}
+use Rattle.entry.specs.declared.Entry.{Entry}
 use Rattle.queue.specs.declared.Queue.{Queue}
-use Rattle.queue.specs.Entry.{plainEntry}
 use Rattle.queue.specs.Queue.{room, waits}
-use Rattle.queue.specs.Laws.{Holds}
+use Rattle.queue.specs.Holding.{Holds}
+use Rattle.sdlc.specs.declared.Listener.{Listener}
+use Rattle.sdlc.specs.declared.Listened.{Listened}
+use Rattle.sdlc.specs.Hearing.{pastFlag, hearSdlc}
+use Rattle.frames.specs.Heard.{Fresh, endMarks}
+use Rattle.frames.specs.Frames.{ended, betweenFlags, framesOf, allEnded, Notes}
+use Rattle.line.specs.Frame.{withCheck}
 use Rattle.receiver.specs.declared.Receiving.{Receiving}
-use Rattle.receiver.specs.declared.Receiver.{Receiver}
-use Rattle.receiver.specs.declared.Heard.{Heard}
-use Rattle.receiver.specs.Sdlc.{past}
-use Rattle.receiver.specs.Receiver.{hear}
+use Rattle.receiver.specs.Receiver.{listenerOf}
 use Rattle.settings.specs.Settings.{receivingOf}
 use Rattle.channel.specs.declared.Answer.the-variants.{Gave}
 use Rattle.channel.specs.declared.Channel.{Channel}
@@ -31,66 +31,48 @@ use Rattle.chip.specs.Event.{Event, ControlRead}
 use Rattle.stories.specs.Story.{Which, number, chan, happens, after}
 use Rattle.stories.specs.Received.{Hears, Reads, Else, role, bitsOf, valuesOf, tookOf, bytesOf, goodEnd, noEnd}
 
--- The receiving side of a channel: receiver, queue, and what registers and lines say to the receiver
+-- The receiving side of a channel: SDLC's part of its receiver, the queue, and what registers and lines say
+-- to the receiver
 
 pub record Side : Type 0 where
-  pub receiver : Receiver
+  pub listener : Listener
   pub queue : Queue
   pub settings : Receiving
 
-abbrev pub side : Receiver → Queue → Receiving → Side
-side s q g = record { receiver = s; queue = q; settings = g }
+abbrev pub side : Listener → Queue → Receiving → Side
+side s q g = record { listener = s; queue = q; settings = g }
 
 abbrev pub sideIn : Channel → Side
-sideIn c = side (c .receiver) (c .queue) (receivingOf (c .registers) (c .lines))
+sideIn c = side (listenerOf (c .receiver)) (c .queue) (receivingOf (c .registers) (c .lines))
 
 abbrev pub sideOf : Which → Chip → Side
 sideOf w c = sideIn (chan w c)
 
 -- "An SDLC receiver that [is] on, address search off, queue empty, in hunt or just past a flag"
 
-pub data Start (s : Receiver) : Type 0 where
-  in-hunt : s .content .hunt ≡ true → Start s
-  past-flag : s .content ≡ past s .content → Start s
-
 -- the queue's three places are a fact of every chip with a history: `queue-three` in Sound
 pub record Listening (x : Side) : Type 0 where
   pub mode : x .settings .mode ≡ Sdlc
   pub on : x .settings .on ≡ true
-  pub search : x .settings .search ≡ false
+  pub search : x .settings .addressing .search ≡ false
   pub empty : x .queue .count ≡ 0
   pub three : length (x .queue .entries) ≡ room
-  pub start : Start (x .receiver)
+  pub start : Fresh (x .listener)
 
 -- "stays on .. read before a fourth character waits and else untouched": a tick that hands a character over finds room, reads come as they
 -- like, and what else happens leaves the side as it was
 
-abbrev pub roomFor : Queue → Heard → Bool
+abbrev pub roomFor : Queue → Listened → Bool
 roomFor q h = not (h .some) || ltb (q .count) room
 
 abbrev pub roomy : Side → Bool → Bool
-roomy x b = roomFor (x .queue) (hear (x .settings) (x .receiver) b)
+roomy x b = roomFor (x .queue) (hearSdlc (x .settings .addressing) (x .listener) b)
 
 pub data Fed (w : Which) : Chip → List Event → Type 0 where
   over : {c : Chip} → Fed w c []
   hears : {c : Chip} {e : Event} {st : List Event} {b : Bool} → role w e ≡ Hears b → roomy (sideOf w c) b ≡ true → Fed w (happens c e .chip) st → Fed w c (e ∷ st)
   reads : {c : Chip} {e : Event} {st : List Event} → role w e ≡ Reads → Fed w (happens c e .chip) st → Fed w c (e ∷ st)
   still : {c : Chip} {e : Event} {st : List Event} → role w e ≡ Else → sideOf w (happens c e .chip) ≡ sideOf w c → Fed w (happens c e .chip) st → Fed w c (e ∷ st)
-
--- "its bytes, its check": the check's two bytes, the first bit of each lowest
-
-unfoldable pub checkBytes : ℕ → List ℕ
-checkBytes r = fromLow (take 8 (checkBits r)) ∷ fromLow (drop 8 (checkBits r)) ∷ []
-
-abbrev pub withCheck : List ℕ → List ℕ
-withCheck note = note ++ checkBytes (checkOf note)
-
--- "and a good mark": entries of these bytes, without any mark; the last alone has the end mark, with a check that is bad or not
-
-unfoldable pub ended : Bool → List ℕ → List Entry
-ended bad [] = []
-ended bad (v ∷ []) = plainEntry v true bad ∷ []
-ended bad (v ∷ x ∷ vs) = plainEntry v false false ∷ ended bad (x ∷ vs)
 
 -- at the end of a story: what was read, followed by what waits, is this; no latch of RR1 has changed, and the receiver is just past a flag
 
@@ -99,7 +81,7 @@ pub record Received (w : Which) (c : Chip) (st : List Event) (bytes : List ℕ) 
   pub holds : Holds (chan w c .queue .parity) (chan w c .queue .overrun) (chan w (after c st) .queue) waiting
   pub values : valuesOf w c st ++ bytesOf waiting ≡ bytes
   pub marks : tookOf w c st ++ waiting ≡ es
-  pub ready : chan w (after c st) .receiver ≡ past (chan w c .receiver)
+  pub ready : sideOf w (after c st) .listener ≡ pastFlag
   pub stays : sideOf w (after c st) .settings ≡ sideOf w c .settings
 
 abbrev pub Demand2 : Type 0
@@ -129,26 +111,11 @@ Mark2 = (w : Which) (c : Chip) (xs ys : List Event) (note : List ℕ) → Listen
 
 -- Several notes, each closing flag the next one's opening flag
 
-unfoldable pub framesOf : List (List ℕ) → List Bool
-framesOf [] = []
-framesOf (n ∷ ns) = (stuff 0 (contentOf n) ++ flagBits) ++ framesOf ns
-
-unfoldable pub allEnded : List (List ℕ) → List Entry
-allEnded [] = []
-allEnded (n ∷ ns) = ended false (withCheck n) ++ allEnded ns
-
-pub data Notes : List (List ℕ) → Type 0 where
-  no-more : Notes []
-  one-more : {v : ℕ} {vs : List ℕ} {ns : List (List ℕ)} → Below 256 (v ∷ vs) → Notes ns → Notes ((v ∷ vs) ∷ ns)
-
 abbrev pub Notes2 : Type 0
 Notes2 = (w : Which) (c : Chip) (st : List Event) (ns : List (List ℕ)) → Listening (sideOf w c) → Notes ns → Fed w c st
     → bitsOf w st ≡ flagBits ++ framesOf ns → Received w c st (bytesOf (allEnded ns)) (allEnded ns)
 
 -- A frame with any one bit of content and check flipped: as many characters, the end mark, a bad check
-
-abbrev pub framed : List Bool → List Bool
-framed bs = flagBits ++ (stuff 0 bs ++ flagBits)
 
 pub record Found (w : Which) (c : Chip) (st : List Event) (n : ℕ) : Type 0 where
   pub bytes : List ℕ
@@ -157,4 +124,10 @@ pub record Found (w : Which) (c : Chip) (st : List Event) (n : ℕ) : Type 0 whe
 
 abbrev pub Flipped2 : Type 0
 Flipped2 = (w : Which) (c : Chip) (st : List Event) (note : List ℕ) (xs ys : List Bool) (b : Bool) → Listening (sideOf w c) → Fed w c st
-    → contentOf note ≡ xs ++ (b ∷ ys) → bitsOf w st ≡ framed (xs ++ (not b ∷ ys)) → Found w c st (length note + 2)
+    → contentOf note ≡ xs ++ (b ∷ ys) → bitsOf w st ≡ betweenFlags (xs ++ (not b ∷ ys)) → Found w c st (length note + 2)
+
+-- No end told: no end mark among what was read and what waits
+pub record NoEndTold (w : Which) (c : Chip) (st : List Event) (parity overrun : Bool) : Type 0 where
+  pub waiting : List Entry
+  pub holds : Holds parity overrun (chan w (after c st) .queue) waiting
+  pub untold : endMarks (tookOf w c st ++ waiting) ≡ 0

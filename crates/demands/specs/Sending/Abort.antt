@@ -12,14 +12,16 @@ use Rattle.common.specs.Tools.{if-elim, lt-or}
 use Rattle.line.specs.Insertion.{stuff}
 use Rattle.line.specs.Frame.{flagBits, contentOf, frame}
 use Rattle.line.specs.Laws.Frame.{ticks-are}
-use Rattle.sender.specs.declared.LineUnit.{LineUnit}
-use Rattle.sender.specs.declared.LineUnit.the-variants.{Mark, Flag, Byte, Check, Abort, Character}
-use Rattle.sender.specs.declared.Core.{Core}
-use Rattle.sender.specs.declared.Sender.{Sender}
-use Rattle.sender.specs.declared.Sending.{Sending}
-use Rattle.sender.specs.declared.Ticked.{Ticked}
-use Rattle.sender.specs.Sender.{core, sender, ticked, uncounted, paid, flagBit, tickSdlc, tick, aborting}
-use Rattle.sender.specs.Laws.Tick.{tick-flag, tick-abort, tick-chooses, next-abort, abort-cuts}
+use Rattle.shared.specs.declared.Shared.{Shared}
+use Rattle.sdlc.specs.declared.LineUnit.{LineUnit}
+use Rattle.sdlc.specs.declared.LineUnit.the-variants.{Mark, Flag, Byte, Check, Abort}
+use Rattle.sdlc.specs.declared.Framer.{Framer}
+use Rattle.sdlc.specs.declared.Framed.{Framed}
+use Rattle.sdlc.specs.Sending.{insertion, notCounted, framer, sentBit, flagBit, tickSdlc, aborting}
+use Rattle.sdlc.specs.Laws.Tick.{tick-flag, tick-abort, tick-chooses, next-abort, abort-cuts}
+use Rattle.sender.specs.Sender.{framerOf, framerIn}
+use Rattle.sender.specs.Good.{Good}
+use Rattle.sender.specs.Laws.Tick.{abort-sdlc}
 use Rattle.settings.specs.Settings.{commandIn, presetIn}
 use Rattle.channel.specs.declared.Side.{Side}
 use Rattle.channel.specs.declared.Side.the-variants as channels
@@ -29,29 +31,35 @@ use Rattle.channel.specs.Control.{commanded, preset, commandStep, presetStep, w
 use Rattle.chip.specs.declared.Chip.{Chip}
 use Rattle.chip.specs.Chip.{controlWriteA, controlWrite}
 use Rattle.chip.specs.Event.{Event, ControlWrite, Transmit}
-use Rattle.come.specs.Come.{Good, flagTail}
-use Rattle.come.specs.Stage.{Stage, opening, inByte, inCheck, closing}
-use Rattle.come.specs.Laws.{in-sdlc}
-use Rattle.come.specs.Start.{flagHead}
+use Rattle.frames.specs.Come.{flagTail}
+use Rattle.frames.specs.Come as come
+use Rattle.frames.specs.Stage.{Stage, opening, inByte, inCheck, closing}
+use Rattle.frames.specs.Start.{flagHead}
+use Rattle.frames.specs.Heard.{hearAll, flagFree, onesOver, lead}
+use Rattle.frames.specs.Laws.Deaf.{content-free, free-front, ones-counted, abort-no-end}
 use Rattle.stories.specs.Story.{Which, A, B, number, chan, happens, after}
 use Rattle.stories.specs.Sent.{isTick, lineBit, lineOf, ticks}
-use Rattle.demands.specs.Receiving.Deaf.{flagFree, onesOver, lead, content-free, free-front, ones-counted, abort-no-end, abort-untold}
-use Rattle.demands.specs.Receiving.Heard.{hearAll}
+use Rattle.demands.specs.Receiving.Untold.{abort-untold}
 use Rattle.demands.specs.Sending.Side.{good, good-of, SenderSide, sendingIn, sideIn, sideOf}
-use Rattle.demands.specs.Sending.Statement.{SendsAbort, LeftToRun, ended, kept, ticking, AbortCuts, AbortUntold}
-use Rattle.demands.specs.Sending.Frame.{tick-side, tick-bit, tick-counts, skip-line, skip-ticks, frame-kept, frame-begun}
+use Rattle.demands.specs.Sending.Statement.{SendsAbort, LeftToRun, ended, kept, ticking}
+use Rattle.demands.specs.Sending.Statement.{AbortCuts, AbortUntold}
+use Rattle.demands.specs.Sending.Frame.{tickedOf, tick-side, tick-bit, tick-counts, skip-line}
+use Rattle.demands.specs.Sending.Frame.{skip-ticks, frame-kept, frame-begun}
 
 -- Send Abort cuts the unit off
 
 -- the channel's sender is in an abort's d bits, nothing is owed, and it heeds the same
 abbrev CutFrom : Channel → Channel → Type 0
-CutFrom c d = (d .sender .unit ≡ Abort 8) × (d .sender .core .owed ≡ false) × (sideIn d .heeds ≡ sideIn c .heeds)
+CutFrom c d = (d .sender .unit ≡ Abort 8) × (d .sender .insertion .owed ≡ false) × (sideIn d .heeds ≡ sideIn c .heeds)
 
 command-cuts : (c : Channel) (k : ℕ) → k ≡ 1 → Good (sendingIn c) → aborting (c .sender .unit) ≡ false → CutFrom c (commanded c k)
 unfolding commanded
 command-cuts c k e h a =
     let q : eqb k 1 ≡ true = ap (λ (n : ℕ). eqb n 1) e in
-    rw (q, abort-cuts (sendingIn c) (c .sender) (h .sdlc-mode) (h .on) a) (refl, refl, refl)
+    let g = sendingIn c in
+    let cut = abort-sdlc g (c .sender) (h .sdlc-mode)
+    ∙ ap (framerIn (c .sender)) (abort-cuts (g .framing) (framerOf (c .sender)) (h .on) a) in
+    rw (q, cut) (refl, refl, refl)
 
 preset-cut : (c d : Channel) (k : ℕ) → CutFrom c d → CutFrom c (preset d k)
 unfolding preset
@@ -83,44 +91,35 @@ running (Flag n) = flagTail n
 running (Byte n v) = []
 running (Check n v) = []
 running (Abort n) = replicate n true ++ flagBits
-running (Character n v) = []
 
-record Runs (g : Sending) (u : LineUnit) (k : Core) : Type 0 where
+record Runs (u : LineUnit) (r : ℕ) (k : Shared) : Type 0 where
   pub sent : Bool
   pub next : LineUnit
-  pub ticks-to : tick g (sender u k) ≡ ticked sent false (sender next (uncounted k))
+  pub ticks-to : tickSdlc come.good (framer u (insertion r false) k) ≡ sentBit sent next notCounted k
   pub head : running u ≡ sent ∷ running next
 
-runs : (g : Sending) → Good g → (u : LineUnit) (k : Core) → k .owed ≡ false → 1 ≤ length (running u) → Runs g u k
-runs g h u k o l = go u l
-  where
-    paid-is : k ≡ paid k
-    paid-is = λ i. core (k .run) (o i) (k .buffer) (k .full) (k .latch) (k .check)
-
-    as-paid : (u : LineUnit) → tick g (sender u k) ≡ tickSdlc g (sender u (paid k))
-    as-paid u = in-sdlc g h (sender u k) ∙ ap (λ (x : Core). tickSdlc g (sender u x)) paid-is
-
-    go : (u : LineUnit) → 1 ≤ length (running u) → Runs g u k
-    go Mark l = absurd (omega arith)
-    go (Flag zero) l = absurd (omega arith)
-    go (Flag (suc n)) l = record { sent = flagBit (suc n); next = Flag n; ticks-to = as-paid (Flag (suc n)) ∙ tick-flag g k n; head = refl }
-    go (Byte n v) l = absurd (omega arith)
-    go (Check n v) l = absurd (omega arith)
-    go (Abort zero) l = record {
-      sent = false;
-      next = Flag 7;
-      ticks-to = as-paid (Abort 0) ∙ tick-chooses g k (Abort 0) refl ∙ next-abort g (paid k) (h .on) 0;
-      head = refl;
-    }
-    go (Abort (suc n)) l = record { sent = true; next = Abort n; ticks-to = as-paid (Abort (suc n)) ∙ tick-abort g k n; head = refl }
-    go (Character n v) l = absurd (omega arith)
+runs : (u : LineUnit) (r : ℕ) (k : Shared) → 1 ≤ length (running u) → Runs u r k
+runs Mark r k l = absurd (omega arith)
+runs (Flag zero) r k l = absurd (omega arith)
+runs (Flag (suc n)) r k l =
+    record { sent = flagBit (suc n); next = Flag n; ticks-to = tick-flag come.good k n r; head = refl }
+runs (Byte n v) r k l = absurd (omega arith)
+runs (Check n v) r k l = absurd (omega arith)
+runs (Abort zero) r k l = record {
+  sent = false;
+  next = Flag 7;
+  ticks-to = tick-chooses come.good r k (Abort 0) refl ∙ next-abort come.good r k refl 0;
+  head = refl;
+}
+runs (Abort (suc n)) r k l =
+    record { sent = true; next = Abort n; ticks-to = tick-abort come.good k n r; head = refl }
 
 tick-more : (w : Which) (st : List Event) → ticks w (Transmit (number w) ∷ st) ≡ suc (ticks w st)
 unfolding ticks
 tick-more w st = rw (tick-counts w) (omega arith)
 
 runs-line : (w : Which) {c : Chip} {st : List Event} → LeftToRun w c st → sideOf w c .heeds ≡ good → (u : LineUnit) → chan w c .sender .unit ≡ u
-    → chan w c .sender .core .owed ≡ false → ticks w st ≤ length (running u) → lineOf w c st ≡ take (ticks w st) (running u)
+    → chan w c .sender .insertion .owed ≡ false → ticks w st ≤ length (running u) → lineOf w c st ≡ take (ticks w st) (running u)
 unfolding lineOf ticks
 runs-line w ended h u e o l = refl
 runs-line w (kept {c = c} {e = x} {st = st} z k f) h u e o l =
@@ -128,16 +127,20 @@ runs-line w (kept {c = c} {e = x} {st = st} z k f) h u e o l =
     ∙ ap (λ (n : ℕ). take n (running u)) (sym (skip-ticks w x st z))
 runs-line w (ticking {c = c} {st = st} f) h u e o l =
     let s = chan w c .sender in
-    let g = sendingIn (chan w c) in
     let m = tick-more w st in
-    let t = runs g (good-of g h) u (s .core) o (omega arith) in
-    let q : tick g s ≡ ticked (t .sent) false (sender (t .next) (uncounted (s .core))) = ap (λ (x : LineUnit). tick g (sender x (s .core))) e ∙ t .ticks-to in
+    let run = s .insertion .run in
+    let t = runs u run (s .shared) (omega arith) in
+    let p : framerOf s ≡ framer u (insertion run false) (s .shared) =
+    λ i. framer (e i) (insertion run (o i)) (s .shared) in
+    let q : tickedOf w c ≡ sentBit (t .sent) (t .next) notCounted (s .shared) =
+    ap (tickSdlc come.good) p ∙ t .ticks-to in
     let d = happens c (Transmit (number w)) .chip in
-    let i = runs-line w f (ap (λ (x : SenderSide). x .heeds) (tick-side w c) ∙ h) (t .next)
-    (ap (λ (x : SenderSide). x .sender .unit) (tick-side w c) ∙ ap (λ (x : Ticked). x .sender .unit) q)
-    (ap (λ (x : SenderSide). x .sender .core .owed) (tick-side w c) ∙ ap (λ (x : Ticked). x .sender .core .owed) q)
+    let y = tick-side w c h in
+    let i = runs-line w f (ap (λ (x : SenderSide). x .heeds) y) (t .next)
+    (ap (λ (x : SenderSide). x .sender .unit) y ∙ ap (λ (x : Framed). x .framer .unit) q)
+    (ap (λ (x : SenderSide). x .sender .insertion .owed) y ∙ ap (λ (x : Framed). x .framer .insertion .owed) q)
     (omega (arith, ap length (t .head))) in
-    ap (λ (b : List Bool). b ++ lineOf w d st) (tick-bit w c ∙ ap (λ (x : Ticked). x .bit ∷ []) q)
+    ap (λ (b : List Bool). b ++ lineOf w d st) (tick-bit w c h ∙ ap (λ (x : Framed). x .bit ∷ []) q)
     ∙ ap (λ (b : List Bool). t .sent ∷ b) i
     ∙ sym (ap₂ (λ (n : ℕ) (b : List Bool). take n b) m (t .head))
 
@@ -176,7 +179,7 @@ free-behind o m note l = lt-or m 9 few more
         ap (λ (x : List Bool). flagFree (onesOver o (take 8 x)) (drop 8 x)) e
         ∙ unfold onesOver in (free-front 0 (take k body) (drop k body) (ap (flagFree 0) (take-append-drop k body) ∙ content-free (contentOf note)))
 
-not-aborting : {s : Sender} {n : ℕ} {rest : List ℕ} → Stage false s n rest → aborting (s .unit) ≡ false
+not-aborting : {s : Framer} {n : ℕ} {rest : List ℕ} → Stage false s n rest → aborting (s .unit) ≡ false
 not-aborting (opening k b f c n rest m p) = refl
 not-aborting (inByte k v r o b f c n rest m) = refl
 not-aborting (inCheck k v r o b f c n) = refl
@@ -197,9 +200,9 @@ abort3 w c p v vs left xs x s i n a =
           line-join w c xs (ControlWrite (number w) x ∷ ys)
           ∙ ap (λ (l : List Bool). lineOf w c xs ++ l)
           (skip-line w (after c xs) (ControlWrite (number w) x) ys refl ∙ runs-line w f (cut .2 ∙ h) (Abort 8) (cut .0) (cut .1) m);
-      no-end = λ g m o r zs y f.
-          abort-no-end g m o (hearAll g r (take 8 sent) .receiver) (drop 8 sent) 8 zs y (omega arith)
-          (ap (λ (q : ℕ). flagFree q (drop 8 sent)) (ones-counted g m o r (take 8 sent))
+      no-end = λ g r zs y f.
+          abort-no-end g (hearAll g r (take 8 sent) .listener) (drop 8 sent) 8 zs y (omega arith)
+          (ap (λ (q : ℕ). flagFree q (drop 8 sent)) (ones-counted g r (take 8 sent))
           ∙ ap (λ (l : List Bool). flagFree (onesOver (r .content .ones) (take 8 l)) (drop 8 l)) b
           ∙ free-behind (r .content .ones) (p + ticks w xs) note (omega arith)) f;
     }
@@ -219,4 +222,4 @@ abort-unheard w c p v vs left xs s i n l u r rs parity overrun es zs b m o z h e
     ap (λ (x : ℕ). flagFree x (drop 8 sent)) (z ∙ sym (ap (onesOver 0) first ∙ flag-ones 0))
     ∙ ap (λ (x : List Bool). flagFree (onesOver 0 (take 8 x)) (drop 8 x)) q
     ∙ free-behind 0 (p + ticks w xs) (v ∷ vs) (omega arith) in
-    abort-untold u r rs parity overrun es (drop 8 sent) 8 zs b m o h e f k (omega arith) y j
+    abort-untold u r rs parity overrun es (drop 8 sent) 8 zs b (record { mode = m; on = o }) h e f k (omega arith) y j

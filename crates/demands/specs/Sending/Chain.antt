@@ -1,5 +1,5 @@
 -- A closing flag opens the next frame: the check preset and the latch cleared within it, demand 3 starts again. Assumes nothing.
-use mathlib.Core.Path.{_≡_, refl, ap, _∙_}
+use mathlib.Core.Path.{_≡_, refl, sym, ap, _∙_, subst}
 use mathlib.Core.Bool.{true, false}
 use mathlib.Core.List.{[], _∷_, _++_}
 use Prim.Native.Nat.{ℕ, zero, suc}
@@ -7,10 +7,11 @@ use native.Mathlib.Omega.{arith}
 use lib.Dec.{eqb}
 use lib.ListN.{length, length-append}
 use Rattle.line.specs.Laws.Frame.{ticks-are}
-use Rattle.sender.specs.declared.LineUnit.the-variants.{Flag}
+use Rattle.sdlc.specs.declared.LineUnit.the-variants.{Flag}
 use Rattle.sender.specs.declared.Sender.{Sender}
-use Rattle.sender.specs.Sender.{checkPreset, latchCleared}
-use Rattle.sender.specs.Sound.{SoundSender}
+use Rattle.sender.specs.Sender.{framerOf, checkPreset, latchCleared}
+use Rattle.sdlc.specs.declared.Framer.{Framer}
+use Rattle.sdlc.specs.Sound.{SoundUnit}
 use Rattle.channel.specs.declared.Side.{Side}
 use Rattle.channel.specs.declared.Side.the-variants as channels
 use Rattle.channel.specs.declared.Channel.{Channel}
@@ -19,9 +20,10 @@ use Rattle.channel.specs.Control.{commanded, preset, commandStep, presetStep, w
 use Rattle.chip.specs.declared.Chip.{Chip}
 use Rattle.chip.specs.Chip.{controlWriteA, controlWrite}
 use Rattle.chip.specs.Event.{ControlWrite}
-use Rattle.come.specs.Come.{toCome}
-use Rattle.come.specs.Stage.{Stage, opening, inByte, inCheck, closing}
-use Rattle.come.specs.Start.{flagHead, unfinished-some}
+use Rattle.frames.specs.Come.{toCome}
+use Rattle.frames.specs.Stage.{Stage, opening, inByte, inCheck, closing}
+use Rattle.frames.specs.Start.{flagHead}
+use Rattle.frames.specs.Laws.Start.{unended-some}
 use Rattle.stories.specs.Story.{Which, A, B, number, chan, happens, after}
 use Rattle.stories.specs.Sent.{lineOf}
 use Rattle.demands.specs.Sending.Side.{SenderSide, good-of, sendingIn}
@@ -69,19 +71,20 @@ starts-anew w c p h =
       some = h .some;
       inside = h .inside;
       flag = ap (λ (t : Sender). t .unit) s ∙ h .flag;
-      empty = ap (λ (t : Sender). t .core .full) s ∙ h .empty;
-      preset = ap (λ (t : Sender). t .core .check) s;
-      cleared = ap (λ (t : Sender). t .core .latch) s;
+      empty = ap (λ (t : Sender). t .shared .full) s ∙ h .empty;
+      preset = ap (λ (t : Sender). t .shared .check) s;
+      cleared = ap (λ (t : Sender). t .shared .latch) s;
       settings = rw g (h .settings);
-      history = rw s (h .history);
+      history = subst (λ (x : Sender). SoundUnit (x .unit) (x .insertion)) (sym s) (h .history);
     }
 
 -- nothing is to come: the closing flag's last bit is sent
-flag-ended : {s : Sender} {n : ℕ} → Stage false s n [] → length (toCome s []) ≡ 0 → (s .unit ≡ Flag 0) × SoundSender s
-flag-ended (opening k b f c n _ m p) z = absurd (omega (arith, unfinished-some (opening {a = false} k b f c n [] m p) refl))
-flag-ended (inByte k v r o b f c n _ m) z = absurd (omega (arith, unfinished-some (inByte {a = false} k v r o b f c n [] m) refl))
-flag-ended (inCheck k v r o b f c n) z = absurd (omega (arith, unfinished-some (inCheck {a = false} k v r o b f c n) refl))
-flag-ended (closing zero b f c n) z = (refl, (refl, refl, omega arith))
+flag-ended : {s : Framer} {n : ℕ} → Stage false s n [] → length (toCome s []) ≡ 0
+    → (s .unit ≡ Flag 0) × SoundUnit (s .unit) (s .insertion)
+flag-ended (opening k b f c n _ m p) z = absurd (omega (arith, unended-some (opening {a = false} k b f c n [] m p) refl))
+flag-ended (inByte k v r o b f c n _ m) z = absurd (omega (arith, unended-some (inByte {a = false} k v r o b f c n [] m) refl))
+flag-ended (inCheck k v r o b f c n) z = absurd (omega (arith, unended-some (inCheck {a = false} k v r o b f c n) refl))
+flag-ended (closing zero b f c n) z = (refl, ((refl, refl), omega arith))
 flag-ended (closing (suc k) b f c n) z = absurd (omega arith)
 
 pub frame-ends : FrameEnds
@@ -92,13 +95,14 @@ frame-ends w c p v vs st s i n f q =
     let z : length t ≡ 0 =
     omega (arith, ap length (k .1), length-append (flagHead p) (lineOf w c st ++ t), length-append (lineOf w c st) t, length-append (flagHead p) (lineOf w c st), sent-length w c p st (s .inside)) in
     let e = flag-ended (k .0 .stage) z in
-    let there : chan w (after c st) .sender ≡ k .0 .last = ap (λ (x : SenderSide). x .sender) (k .0 .there) in
+    let there : framerOf (chan w (after c st) .sender) ≡ k .0 .last =
+    ap (λ (x : SenderSide). x .sender) (k .0 .there) in
     record {
       some = omega arith;
       inside = omega arith;
-      flag = ap (λ (x : Sender). x .unit) there ∙ e .0;
+      flag = ap (λ (x : Framer). x .unit) there ∙ e .0;
       empty = f;
       settings = good-of (sendingIn (chan w (after c st))) (ap (λ (x : SenderSide). x .heeds) (k .0 .there));
-      history = rw there (e .1);
+      history = subst (λ (x : Framer). SoundUnit (x .unit) (x .insertion)) (sym there) (e .1);
       to-wr0 = q;
     }

@@ -10,28 +10,18 @@ use Rattle.line.specs.Bits.{lowBits, textBits}
 use Rattle.line.specs.Check.{ones, checkStep, checkOver, topBits, checkBits}
 use Rattle.line.specs.Insertion.{stuff, zeros}
 use Rattle.line.specs.Frame.{flagBits, frame}
-use Rattle.sender.specs.declared.LineUnit.the-variants.{Flag}
-use Rattle.sender.specs.Sender as sender
-use Rattle.queue.specs.Queue.{pushed, taken, oldest, special}
-use Rattle.receiver.specs.Sdlc.{accept, push, one, zeroBit}
-use Rattle.receiver.specs.Receiver.{reset, hear}
-use Rattle.settings.specs.Settings.{modeOf, notBuilt, lengthOf, sendingOf, receivingOf}
-use Rattle.channel.specs.Status.{changed, noticed, afresh}
-use Rattle.channel.specs.Channel.{liveOf, settled}
-use Rattle.channel.specs.Control.{commanded, preset, commandStep, presetStep, writeWr0, setWr4, setRegister, controlWritten, rr0, rr1Now, readRegister}
-use Rattle.channel.specs.Events.{dataRead, transmitTick, receiveTick, linesSet, specialWaits, receivePending, pendingIn}
-use Rattle.chip.specs.Interrupts.{highestOf, pendingLevel, serviceLevel, anyPending, serving, atLevel, mayTake, acknowledge, reti}
-use Rattle.chip.specs.Chip.{controlWriteA, controlWrite, controlReadCall, dataWriteCall, dataReadCall, transmitCall, receiveCall, linesCall}
+use Rattle.sdlc.specs.declared.LineUnit.the-variants.{Flag}
+use Rattle.sender.specs.Good.{Good}
+use Rattle.receiver.specs.Receiver.{listenerOf, reset}
+use Rattle.chip.specs.Computing.{computing}
 use Rattle.chip.specs.Event.{Event, ControlWrite, DataWrite, Transmit}
-use Rattle.come.specs.Come.{Good}
-use Rattle.come.specs.Start.{flagHead}
+use Rattle.frames.specs.Start.{flagHead}
+use Rattle.frames.specs.Heard.{hearAll, endMarks}
 use Rattle.stories.specs.Story.{A, chan, happens, after}
 use Rattle.stories.specs.Sent.{lineOf, ticks, d6, resetStatus}
 use Rattle.stories.specs.Sending.{times, tick, setUp, begin, noisy, dry, late, whole, choosing, held, begun, sendAbort, gone, told}
 use Rattle.demands.specs.Sound.{reset-sound}
 use Rattle.demands.specs.Receiving.Statement as receiving
-use Rattle.demands.specs.Receiving.Heard.{hearAll}
-use Rattle.demands.specs.Receiving.Deaf.{endMarks}
 use Rattle.demands.specs.Sending.Side.{sendingIn, fullOf, latchOf}
 use Rattle.demands.specs.Sending.Statement.{Start, Closing, anew, RunsDry, Underrun, statusLatched, SendsAbort, Aborted, NotClosed}
 use Rattle.demands.specs.Sending.Frame.{start-of, frame-begun}
@@ -47,13 +37,13 @@ second k = DataWrite 0 0 ∷ (times 6 tick ++ (times k tick ++ (DataWrite 0 0 �
 
 -- a receiver behind a reset, in SDLC and on, that hears a line: the end marks
 abbrev pub endsIn : List Bool → ℕ
-endsIn line = endMarks (hearAll (receiving.sideOf A begin .settings) reset line .got)
+endsIn line = endMarks (hearAll (receiving.sideOf A begin .settings .addressing) (listenerOf reset) line .got)
 
 pub record Examples : Type 0 where
   -- within a flag, the buffer empty, the check preset, the latch cleared
   pub flag : chan A begin .sender .unit ≡ Flag (8 - 3)
   pub empty : fullOf A begin ≡ false
-  pub preset : chan A begin .sender .core .check ≡ ones
+  pub preset : chan A begin .sender .shared .check ≡ ones
   pub latch-cleared : latchOf A begin ≡ false
   pub settings : Good (sendingIn (chan A begin))
   -- in time, though it is amid all that
@@ -86,7 +76,7 @@ pub record Examples : Type 0 where
   pub an-end : endsIn (frame (1 ∷ 2 ∷ [])) ≡ 1
 
 pub examples : Examples
-unfolding timely freely watching hearAll times lineOf ticks after stuff zeros textBits lowBits checkOver checkStep checkBits topBits controlWriteA controlWrite controlReadCall dataWriteCall dataReadCall transmitCall receiveCall linesCall highestOf pendingLevel serviceLevel anyPending serving atLevel mayTake acknowledge reti liveOf settled commanded preset commandStep presetStep writeWr0 setWr4 setRegister controlWritten rr0 rr1Now readRegister dataRead transmitTick receiveTick linesSet specialWaits receivePending pendingIn changed noticed afresh sender.following sender.going sender.tickSdlc sender.tick hear one zeroBit push accept pushed taken oldest special modeOf notBuilt lengthOf sendingOf receivingOf
+unfolding computing timely freely watching hearAll times lineOf ticks after zeros
 examples = record {
   flag = refl;
   empty = refl;

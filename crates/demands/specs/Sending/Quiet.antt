@@ -2,7 +2,7 @@
 use mathlib.Core.Path.{_≡_, refl, sym, ap, _∙_}
 use mathlib.Core.Bool.{Bool, true, false, not, _&&_, _||_, Bool·beq}
 use Prim.Native.Nat.{ℕ, _/_}
-use lib.Dec.{eqb, ltb, leb}
+use lib.Dec.{eqb, leb}
 use Rattle.common.specs.Choice.{if_then_else_}
 use Rattle.common.specs.Tools.{if-elim, by-test, void, both-left, both-right}
 use Rattle.common.specs.Mode.{inSdlc}
@@ -10,11 +10,15 @@ use Rattle.common.specs.declared.Mode.{Mode}
 use Rattle.common.specs.declared.Mode.the-variants.{NoMode, Asynchronous, Sdlc}
 use Rattle.common.specs.declared.Refusal.the-variants as refusal
 use Rattle.line.specs.Bits.{odd}
-use Rattle.sender.specs.Sender.{aborted, checkPreset, latchCleared}
+use Rattle.sdlc.specs.Sending.{framing}
+use Rattle.sender.specs.Sender.{framerOf, aborted, checkPreset, latchCleared}
 use Rattle.queue.specs.Queue.{waits}
+use Rattle.interrupts.specs.declared.Six.{Six}
+use Rattle.interrupts.specs.Interrupts.{acknowledged, ended}
 use Rattle.settings.specs.declared.Registers.{Registers}
 use Rattle.settings.specs.declared.Lines.{Lines}
-use Rattle.settings.specs.Settings.{store3, store4, store5, commandIn, presetIn, entersHunt, autoEnables, modeOf, notBuilt, sendingOf}
+use Rattle.settings.specs.Settings.{store3, store4, store5, commandIn, presetIn, entersHunt}
+use Rattle.settings.specs.Settings.{autoEnables, modeOf, notBuilt, sends, sendingOf}
 use Rattle.channel.specs.declared.Side.{Side}
 use Rattle.channel.specs.declared.Side.the-variants as channels
 use Rattle.channel.specs.declared.Channel.{Channel}
@@ -25,9 +29,8 @@ use Rattle.channel.specs.Control.{commanded, preset, commandStep, presetStep, w
 use Rattle.channel.specs.Events.{dataRead, receiveTick, linesSet}
 use Rattle.chip.specs.declared.Chip.{Chip}
 use Rattle.chip.specs.declared.Outcome.{Outcome}
-use Rattle.chip.specs.declared.Acknowledged.{Acknowledged}
-use Rattle.chip.specs.Interrupts.{serviceLevel, none, serving, atLevel, mayTake, acknowledge, reti, pendingLevel}
-use Rattle.chip.specs.Chip.{refused, byChannel, endsService, onLevel, controlWriteA, controlWrite, controlReadCall, dataWriteCall, dataReadCall, transmitCall, receiveCall, linesCall}
+use Rattle.chip.specs.Interrupts.{pendingOf, serviceOf, inService, acknowledge, reti}
+use Rattle.chip.specs.Chip.{refused, inA, inB, byChannel, serviceBy, onLevel, controlWriteA, controlWrite, controlReadCall, dataWriteCall, dataReadCall, transmitCall, receiveCall, linesCall}
 use Rattle.chip.specs.Event.{Event, HardReset, ControlWrite, ControlRead, DataWrite, DataRead, Transmit, Receive, SetLines, Acknowledge, Reti}
 use Rattle.stories.specs.Story.{Which, A, B, number, chan, happens}
 use Rattle.demands.specs.Sending.Side.{Heeded, heeded, SenderSide, side, sendingIn, sideIn, sideOf}
@@ -120,21 +123,24 @@ wr0-keeps c v q =
     ∙ commanded-keeps c k (both-left (not (eqb k 1)) (not (eqb k 3)) l))
 
 -- registers that say the same of sending
+abbrev heeds : Mode → Bool → Bool → Bool → Heeded
+heeds m broken on included = record { mode = m; broken = broken; framing = framing on included }
+
 wr3-keeps : (r : Registers) (l : Lines) (v : ℕ) → Bool·beq (odd (v / 32)) (autoEnables r) ≡ true → heeded (sendingOf (store3 r v) l) ≡ heeded (sendingOf r l)
 unfolding sendingOf
 wr3-keeps r l v q =
-    ap (λ (t : Bool). record { mode = modeOf (r .wr4); on = odd (r .wr5 / 8) && (not t || l .cts); included = odd (r .wr5); broken = odd (r .wr5 / 16) })
+    ap (λ (t : Bool). heeds (modeOf (r .wr4)) (odd (r .wr5 / 16)) (odd (r .wr5 / 8) && (not t || l .cts)) (odd (r .wr5)))
     (beq-same (odd (v / 32)) (autoEnables r) q)
 
 wr4-keeps : (r : Registers) (l : Lines) (v : ℕ) → modeOf v ≡ modeOf (r .wr4) → heeded (sendingOf (store4 r v) l) ≡ heeded (sendingOf r l)
 unfolding sendingOf
 wr4-keeps r l v e =
-    ap (λ (m : Mode). record { mode = m; on = odd (r .wr5 / 8) && (not (autoEnables r) || l .cts); included = odd (r .wr5); broken = odd (r .wr5 / 16) }) e
+    ap (λ (m : Mode). heeds m (odd (r .wr5 / 16)) (sends r l) (odd (r .wr5))) e
 
 wr5-keeps : (r : Registers) (l : Lines) (v : ℕ) → odd v ≡ odd (r .wr5) → odd (v / 8) ≡ odd (r .wr5 / 8) → odd (v / 16) ≡ odd (r .wr5 / 16)
     → heeded (sendingOf (store5 r v) l) ≡ heeded (sendingOf r l)
 unfolding sendingOf
-wr5-keeps r l v i o b = λ j. record { mode = modeOf (r .wr4); on = o j && (not (autoEnables r) || l .cts); included = i j; broken = b j }
+wr5-keeps r l v i o b = λ j. heeds (modeOf (r .wr4)) (b j) (o j && (not (autoEnables r) || l .cts)) (i j)
 
 set-wr2-keeps : (c : Channel) (s : Side) (v : ℕ) → Keeps c (setWr2 c s v)
 unfolding sendingOf
@@ -142,7 +148,7 @@ set-wr2-keeps c channels.A v = refl
 set-wr2-keeps c channels.B v = refl
 
 abbrev sameSender : Channel → Heeded → SenderSide
-sameSender c h = side (c .sender) h
+sameSender c h = side (framerOf (c .sender)) h
 
 set-wr4-keeps : (c : Channel) (v : ℕ) → sameMode (modeOf (c .registers .wr4)) (modeOf v) ≡ true → Keeps c (setWr4 c v)
 unfolding setWr4
@@ -192,8 +198,9 @@ control-keeps c s v q =
 lines-keep : (c : Channel) (dcd cts : Bool) → not (autoEnables (c .registers)) || Bool·beq cts (c .lines .cts) ≡ true → Keeps c (linesSet c dcd cts)
 unfolding linesSet settled sendingOf
 lines-keep c dcd cts q =
-    ap (λ (t : Bool). sameSender c (record { mode = modeOf (c .registers .wr4); on = odd (c .registers .wr5 / 8) && t; included = odd (c .registers .wr5); broken = odd (c .registers .wr5 / 16) }))
-    (either (autoEnables (c .registers)) q)
+    let r = c .registers in
+    ap (λ (t : Bool). sameSender c (heeds (modeOf (r .wr4)) (odd (r .wr5 / 16)) (odd (r .wr5 / 8) && t) (odd (r .wr5))))
+    (either (autoEnables r) q)
   where
     either : (t : Bool) → not t || Bool·beq cts (c .lines .cts) ≡ true → not t || cts ≡ not t || c .lines .cts
     either true q = beq-same cts (c .lines .cts) q
@@ -208,25 +215,9 @@ unfolding receiveTick settled
 receive-keeps c b = refl
 
 -- interrupts
-level-keeps : (w : Which) (c : Chip) (k : ℕ) (t : Bool) → sideOf w (atLevel c k t) ≡ sideOf w c
-unfolding atLevel serving
-level-keeps A c k t = if-elim (λ (x : Chip). sideOf A x ≡ sideOf A c) (ltb k 3) refl refl
-level-keeps B c k t = if-elim (λ (x : Chip). sideOf B x ≡ sideOf B c) (ltb k 3) refl refl
-
-reti-keeps : (w : Which) (c : Chip) → sideOf w (reti c) ≡ sideOf w c
-unfolding reti
-reti-keeps w c = if-elim (λ (x : Chip). sideOf w x ≡ sideOf w c) (ltb (serviceLevel c) none) (level-keeps w c (serviceLevel c) false) refl
-
-acknowledge-keeps : (w : Which) (c : Chip) → sideOf w (acknowledge c .chip) ≡ sideOf w c
-unfolding acknowledge
-acknowledge-keeps w c = if-elim (λ (x : Acknowledged). sideOf w (x .chip) ≡ sideOf w c) (mayTake c) (level-keeps w c (pendingLevel c) true) refl
-
--- the pointer and the registers of a channel after RETI are those before it
-reti-control : (c : Chip) (v : ℕ) → quietControl (c .a) v ≡ true → quietControl (reti c .a) v ≡ true
-unfolding reti atLevel serving
-reti-control c v q =
-    if-elim (λ (x : Chip). quietControl (x .a) v ≡ true) (ltb (serviceLevel c) none)
-    (if-elim (λ (x : Chip). quietControl (x .a) v ≡ true) (ltb (serviceLevel c) 3) q q) q
+service-keeps : (w : Which) (c : Chip) (s : Six) → sideOf w (inService c s) ≡ sideOf w c
+service-keeps A c s = refl
+service-keeps B c s = refl
 
 abbrev KeepsOutcome : Which → Chip → Outcome → Type 0
 KeepsOutcome w c x = sideOf w (x .chip) ≡ sideOf w c
@@ -241,11 +232,11 @@ unfolding controlWrite controlWriteA
 write-keeps A c ch v q =
     by-channel (KeepsOutcome A c) c ch refl
     (λ e. let p : quietControl (c .a) v ≡ true = rw e at q in
-    if-elim (KeepsOutcome A c) (endsService (c .a) v) (control-keeps (reti c .a) channels.A v (reti-control c v p) ∙ reti-keeps A c) (control-keeps (c .a) channels.A v p))
+    control-keeps (inService c (serviceBy c v) .a) channels.A v p)
     (λ e. refl)
 write-keeps B c ch v q =
     by-channel (KeepsOutcome B c) c ch refl
-    (λ e. if-elim (KeepsOutcome B c) (endsService (c .a) v) (reti-keeps B c) refl)
+    (λ e. refl)
     (λ e. control-keeps (c .b) channels.B v (rw e at q))
 
 set-lines-keep : (w : Which) (c : Chip) (ch dcd cts : ℕ) → (if eqb ch (number w) then quietLines (chan w c) cts else true) ≡ true
@@ -253,16 +244,16 @@ set-lines-keep : (w : Which) (c : Chip) (ch dcd cts : ℕ) → (if eqb ch (numbe
 unfolding linesCall
 set-lines-keep A c ch dcd cts q =
     by-channel (KeepsOutcome A c) c ch refl
-    (λ e. if-elim (KeepsOutcome A c) (leb 2 dcd || leb 2 cts) refl (lines-keep (c .a) (onLevel dcd) (onLevel cts) (rw e at q)))
-    (λ e. if-elim (KeepsOutcome A c) (leb 2 dcd || leb 2 cts) refl refl)
+    (λ e. if-elim (λ (x : Answered). KeepsOutcome A c (inA c x)) (leb 2 dcd || leb 2 cts) refl (lines-keep (c .a) (onLevel dcd) (onLevel cts) (rw e at q)))
+    (λ e. refl)
 set-lines-keep B c ch dcd cts q =
     by-channel (KeepsOutcome B c) c ch refl
-    (λ e. if-elim (KeepsOutcome B c) (leb 2 dcd || leb 2 cts) refl refl)
-    (λ e. if-elim (KeepsOutcome B c) (leb 2 dcd || leb 2 cts) refl (lines-keep (c .b) (onLevel dcd) (onLevel cts) (rw e at q)))
+    (λ e. refl)
+    (λ e. if-elim (λ (x : Answered). KeepsOutcome B c (inB c x)) (leb 2 dcd || leb 2 cts) refl (lines-keep (c .b) (onLevel dcd) (onLevel cts) (rw e at q)))
 
 -- a quiet event leaves the sender's side as it was
 pub quiet-keeps : (w : Which) (c : Chip) (e : Event) → quiet w c e ≡ true → sideOf w (happens c e .chip) ≡ sideOf w c
-unfolding controlReadCall dataWriteCall dataReadCall transmitCall receiveCall
+unfolding controlReadCall dataWriteCall dataReadCall transmitCall receiveCall acknowledge reti
 quiet-keeps w c HardReset q = void q
 quiet-keeps w c (ControlWrite ch v) q = write-keeps w c ch v q
 quiet-keeps A c (ControlRead ch) q = by-channel (KeepsOutcome A c) c ch refl (λ e. refl) (λ e. refl)
@@ -274,9 +265,11 @@ quiet-keeps B c (DataRead ch) q = by-channel (KeepsOutcome B c) c ch refl (λ e.
 quiet-keeps A c (Transmit ch) q = by-channel (KeepsOutcome A c) c ch refl (λ e. void (sym (ap not e) ∙ q)) (λ e. refl)
 quiet-keeps B c (Transmit ch) q = by-channel (KeepsOutcome B c) c ch refl (λ e. refl) (λ e. void (sym (ap not e) ∙ q))
 quiet-keeps A c (Receive ch bit) q =
-    by-channel (KeepsOutcome A c) c ch refl (λ e. if-elim (KeepsOutcome A c) (leb 2 bit) refl (receive-keeps (c .a) (onLevel bit))) (λ e. if-elim (KeepsOutcome A c) (leb 2 bit) refl refl)
+    by-channel (KeepsOutcome A c) c ch refl
+    (λ e. if-elim (λ (x : Answered). KeepsOutcome A c (inA c x)) (leb 2 bit) refl (receive-keeps (c .a) (onLevel bit))) (λ e. refl)
 quiet-keeps B c (Receive ch bit) q =
-    by-channel (KeepsOutcome B c) c ch refl (λ e. if-elim (KeepsOutcome B c) (leb 2 bit) refl refl) (λ e. if-elim (KeepsOutcome B c) (leb 2 bit) refl (receive-keeps (c .b) (onLevel bit)))
+    by-channel (KeepsOutcome B c) c ch refl (λ e. refl)
+    (λ e. if-elim (λ (x : Answered). KeepsOutcome B c (inB c x)) (leb 2 bit) refl (receive-keeps (c .b) (onLevel bit)))
 quiet-keeps w c (SetLines ch dcd cts) q = set-lines-keep w c ch dcd cts q
-quiet-keeps w c Acknowledge q = acknowledge-keeps w c
-quiet-keeps w c Reti q = reti-keeps w c
+quiet-keeps w c Acknowledge q = service-keeps w c (acknowledged (pendingOf c) (serviceOf c))
+quiet-keeps w c Reti q = service-keeps w c (ended (serviceOf c))

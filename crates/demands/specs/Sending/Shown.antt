@@ -4,31 +4,34 @@ use mathlib.Core.Path.{_≡_, refl, sym, ap, _∙_}
 use mathlib.Core.Bool.{Bool, true, false, not, _&&_, _||_}
 use Prim.Native.Nat.{ℕ, _+_, _/_, _%_, _≤_}
 use native.Mathlib.Omega.{arith}
-use lib.Dec.{eqb, ltb, leb}
+use lib.Dec.{eqb, leb}
 use Rattle.common.specs.Bit.{placed}
 use Rattle.common.specs.Choice.{if_then_else_}
 use Rattle.common.specs.Mode.{inSdlc}
 use Rattle.common.specs.Tools.{if-elim, by-test, void}
 use Rattle.line.specs.Bits.{odd}
 use Rattle.queue.specs.Queue.{waits}
+use Rattle.sdlc.specs.declared.Framer.{Framer}
+use Rattle.sdlc.specs.Sending.{aborting}
 use Rattle.sender.specs.declared.Sender.{Sender}
-use Rattle.sender.specs.Sender.{aborting, aborted, bufferReady}
+use Rattle.sender.specs.Sender.{aborted, bufferReady}
+use Rattle.interrupts.specs.declared.Six.{Six}
+use Rattle.interrupts.specs.Interrupts.{acknowledged, ended}
 use Rattle.settings.specs.Settings.{commandIn, presetIn, entersHunt, modeOf, notBuilt}
 use Rattle.channel.specs.declared.Side.{Side}
 use Rattle.channel.specs.declared.Side.the-variants as channels
-use Rattle.channel.specs.declared.Status.{Status}
+use Rattle.status.specs.declared.Status.{Status}
 use Rattle.channel.specs.declared.Channel.{Channel}
 use Rattle.channel.specs.declared.Answered.{Answered}
 use Rattle.channel.specs.declared.DataRead.{DataRead as DataTaken}
-use Rattle.channel.specs.Status.{changed, noticed, shownBits, afresh}
+use Rattle.status.specs.Status.{changed, noticed, shownBits, afresh}
 use Rattle.channel.specs.Channel.{withStatus, liveOf, settled}
 use Rattle.channel.specs.Control.{commanded, preset, commandStep, presetStep, writeWr0, setWr2, sameMode, setWr4, setRegister, controlWritten, rr0, readRegister}
 use Rattle.channel.specs.Events.{dataRead, transmitTick, receiveTick, linesSet}
 use Rattle.chip.specs.declared.Chip.{Chip}
 use Rattle.chip.specs.declared.Outcome.{Outcome}
-use Rattle.chip.specs.declared.Acknowledged.{Acknowledged}
-use Rattle.chip.specs.Interrupts.{none, serving, atLevel, mayTake, acknowledge, reti, serviceLevel, pendingLevel, anyPending, rr2}
-use Rattle.chip.specs.Chip.{endsService, controlWriteA, controlWrite, controlReadCall, dataWriteCall, dataReadCall, transmitCall, receiveCall, linesCall}
+use Rattle.chip.specs.Interrupts.{pendingOf, serviceOf, inService, acknowledge, reti, anyPending, rr2}
+use Rattle.chip.specs.Chip.{serviceBy, controlWriteA, controlWrite, controlReadCall, dataWriteCall, dataReadCall, transmitCall, receiveCall, linesCall}
 use Rattle.chip.specs.Event.{Event, HardReset, ControlWrite, ControlRead, DataWrite, DataRead, Transmit, Receive, SetLines, Acknowledge, Reti}
 use Rattle.stories.specs.Story.{Which, A, B, number, chan, happens}
 use Rattle.stories.specs.Sent.{d6, resetStatus}
@@ -86,30 +89,32 @@ abbrev StatusShows : Channel → Type 0
 StatusShows c = Shows (c .status)
 
 abbrev LatchSet : Channel → Type 0
-LatchSet c = c .sender .core .latch ≡ true
+LatchSet c = c .sender .shared .latch ≡ true
 
 abbrev Shown : Channel → Type 0
-Shown c = c .sender .core .latch ≡ true → Shows (c .status)
+Shown c = c .sender .shared .latch ≡ true → Shows (c .status)
 
 settled-shown : (was is : Channel) → Shows (is .status) → Shown (settled was is)
 unfolding settled noticed liveOf
 settled-shown was is h l = if-elim Shows (is .status .latched) h (if-elim Shows (changed (liveOf was) (liveOf is)) (λ e. l) h)
 
-afresh-shows : (c : Channel) → c .sender .core .latch ≡ true → Shows (c .status) → Shows (afresh (c .status) (liveOf c))
+afresh-shows : (c : Channel) → c .sender .shared .latch ≡ true → Shows (c .status) → Shows (afresh (c .status) (liveOf c))
 unfolding afresh liveOf
 afresh-shows c l h = if-elim Shows (c .status .latched) (λ e. l) h
 
-module _ (c : Channel) (l : c .sender .core .latch ≡ true) (h : Shows (c .status)) where
-  aborted-latch : aborted (sendingIn c) (c .sender) .core .latch ≡ true
+module _ (c : Channel) (l : c .sender .shared .latch ≡ true) (h : Shows (c .status)) where
+  aborted-latch : aborted (sendingIn c) (c .sender) .shared .latch ≡ true
   aborted-latch =
-      if-elim (λ (s : Sender). s .core .latch ≡ true) ((inSdlc (sendingIn c .mode) && sendingIn c .on) && not (aborting (c .sender .unit))) refl l
+      let g = sendingIn c in
+      if-elim (λ (s : Sender). s .shared .latch ≡ true) (inSdlc (g .mode))
+      (if-elim (λ (s : Framer). s .shared .latch ≡ true) (g .framing .on && not (aborting (c .sender .unit))) refl l) l
 
   commanded-shows : (k : ℕ) → Shows (commanded c k .status)
   unfolding commanded
   commanded-shows k =
       if-elim StatusShows (eqb k 1) h (if-elim StatusShows (eqb k 2) (afresh-shows c l h) (if-elim StatusShows (eqb k 4) h (if-elim StatusShows (eqb k 5) h (if-elim StatusShows (eqb k 6) h h))))
 
-  commanded-latch : (k : ℕ) → commanded c k .sender .core .latch ≡ true
+  commanded-latch : (k : ℕ) → commanded c k .sender .shared .latch ≡ true
   unfolding commanded
   commanded-latch k =
       if-elim LatchSet (eqb k 1) aborted-latch (if-elim LatchSet (eqb k 2) l (if-elim LatchSet (eqb k 4) l (if-elim LatchSet (eqb k 5) l (if-elim LatchSet (eqb k 6) l l))))
@@ -119,13 +124,13 @@ unfolding preset
 preset-shows c k h =
     if-elim StatusShows (eqb k 1) h (if-elim StatusShows (eqb k 2) h (if-elim StatusShows (eqb k 3) h h))
 
-wr0-shown : (c : Channel) (v : ℕ) → c .sender .core .latch ≡ true → Shows (c .status) → Shown (writeWr0 c v)
+wr0-shown : (c : Channel) (v : ℕ) → c .sender .shared .latch ≡ true → Shows (c .status) → Shown (writeWr0 c v)
 unfolding writeWr0 commandStep presetStep
 wr0-shown c v l h =
     let k = commandIn v in
     let j = presetIn v in
     let d = settled c (commanded c k) in
-    let t : d .sender .core .latch ≡ true = unfold settled in (commanded-latch c l h k) in
+    let t : d .sender .shared .latch ≡ true = unfold settled in (commanded-latch c l h k) in
     let g : Shows (d .status) = settled-shown c (commanded c k) (commanded-shows c l h k) t in
     if-elim Shown (eqb k 3) (λ z e. void e) (settled-shown d (preset d j) (preset-shows d j g))
 
@@ -142,31 +147,16 @@ register-shows c s p v h =
 abbrev AnsweredShown : Answered → Type 0
 AnsweredShown x = Shown (x .channel)
 
-control-shown : (c : Channel) (s : Side) (v : ℕ) → c .sender .core .latch ≡ true → Shows (c .status) → Shown (controlWritten c s v .channel)
+control-shown : (c : Channel) (s : Side) (v : ℕ) → c .sender .shared .latch ≡ true → Shows (c .status) → Shown (controlWritten c s v .channel)
 unfolding controlWritten
 control-shown c s v l h =
     if-elim AnsweredShown (eqb (c .pointer) 0) (wr0-shown c v l h)
     (if-elim AnsweredShown (eqb (c .pointer) 4 && notBuilt v) (λ e. h) (settled-shown c (setRegister c s (c .pointer) v) (register-shows c s (c .pointer) v h)))
 
--- interrupts leave status and latch
-abbrev Alike : Channel → Channel → Type 0
-Alike c d = (d .sender ≡ c .sender) × (d .status ≡ c .status)
-
-level-alike : (w : Which) (c : Chip) (k : ℕ) (t : Bool) → Alike (chan w c) (chan w (atLevel c k t))
-unfolding atLevel serving
-level-alike A c k t = if-elim (λ (x : Chip). Alike (c .a) (x .a)) (ltb k 3) (refl, refl) (refl, refl)
-level-alike B c k t = if-elim (λ (x : Chip). Alike (c .b) (x .b)) (ltb k 3) (refl, refl) (refl, refl)
-
-reti-alike : (w : Which) (c : Chip) → Alike (chan w c) (chan w (reti c))
-unfolding reti
-reti-alike w c = if-elim (λ (x : Chip). Alike (chan w c) (chan w x)) (ltb (serviceLevel c) none) (level-alike w c (serviceLevel c) false) (refl, refl)
-
-acknowledge-alike : (w : Which) (c : Chip) → Alike (chan w c) (chan w (acknowledge c .chip))
-unfolding acknowledge
-acknowledge-alike w c = if-elim (λ (x : Acknowledged). Alike (chan w c) (chan w (x .chip))) (mayTake c) (level-alike w c (pendingLevel c) true) (refl, refl)
-
-alike-shows : {s t : Status} → t ≡ s → Shows s → Shows t
-alike-shows e h = rw e h
+-- interrupts leave status
+service-shows : (w : Which) (c : Chip) (s : Six) → Shows (chan w c .status) → Shows (chan w (inService c s) .status)
+service-shows A c s h = h
+service-shows B c s h = h
 
 -- the tick that sets the latch shows it, and every later event does until the latch is cleared
 abbrev ShownIn : Which → Outcome → Type 0
@@ -180,18 +170,16 @@ tick-shown B c h = settled-shown (c .b) _ h
 
 pub event-shown : (w : Which) (c : Chip) (e : Event) → latchOf w c ≡ true → Shows (chan w c .status) → latchOf w (happens c e .chip) ≡ true
     → Shows (chan w (happens c e .chip) .status)
-unfolding controlWrite controlWriteA controlReadCall dataWriteCall dataReadCall dataRead transmitCall transmitTick receiveCall receiveTick linesCall linesSet
+unfolding controlWrite controlWriteA controlReadCall dataWriteCall dataReadCall dataRead transmitCall transmitTick receiveCall receiveTick linesCall linesSet acknowledge reti
 event-shown A c HardReset l h = λ z e. void e
 event-shown B c HardReset l h = λ z e. void e
 event-shown A c (ControlWrite ch v) l h =
     by-channel (ShownIn A) c ch (λ z. h)
-    (λ e. let r = reti-alike A c in
-    if-elim (ShownIn A) (endsService (c .a) v)
-    (control-shown (reti c .a) channels.A v (ap (λ (s : Sender). s .core .latch) (r .0) ∙ l) (alike-shows (r .1) h)) (control-shown (c .a) channels.A v l h))
+    (λ e. control-shown (inService c (serviceBy c v) .a) channels.A v l h)
     (λ e z. h)
 event-shown B c (ControlWrite ch v) l h =
     by-channel (ShownIn B) c ch (λ z. h)
-    (λ e. if-elim (ShownIn B) (endsService (c .a) v) (λ z. alike-shows (reti-alike B c .1) h) (λ z. h))
+    (λ e z. h)
     (λ e. control-shown (c .b) channels.B v l h)
 event-shown A c (ControlRead ch) l h = by-channel (ShownIn A) c ch (λ z. h) (λ e z. h) (λ e z. h)
 event-shown B c (ControlRead ch) l h = by-channel (ShownIn B) c ch (λ z. h) (λ e z. h) (λ e z. h)
@@ -204,17 +192,17 @@ event-shown B c (DataRead ch) l h =
 event-shown A c (Transmit ch) l h = by-channel (ShownIn A) c ch (λ z. h) (λ e. settled-shown (c .a) _ h) (λ e z. h)
 event-shown B c (Transmit ch) l h = by-channel (ShownIn B) c ch (λ z. h) (λ e z. h) (λ e. settled-shown (c .b) _ h)
 event-shown A c (Receive ch bit) l h =
-    by-channel (ShownIn A) c ch (λ z. h) (λ e. if-elim (ShownIn A) (leb 2 bit) (λ z. h) (settled-shown (c .a) _ h)) (λ e. if-elim (ShownIn A) (leb 2 bit) (λ z. h) (λ z. h))
+    by-channel (ShownIn A) c ch (λ z. h) (λ e. if-elim AnsweredShown (leb 2 bit) (λ z. h) (settled-shown (c .a) _ h)) (λ e z. h)
 event-shown B c (Receive ch bit) l h =
-    by-channel (ShownIn B) c ch (λ z. h) (λ e. if-elim (ShownIn B) (leb 2 bit) (λ z. h) (λ z. h)) (λ e. if-elim (ShownIn B) (leb 2 bit) (λ z. h) (settled-shown (c .b) _ h))
+    by-channel (ShownIn B) c ch (λ z. h) (λ e z. h) (λ e. if-elim AnsweredShown (leb 2 bit) (λ z. h) (settled-shown (c .b) _ h))
 event-shown A c (SetLines ch dcd cts) l h =
-    by-channel (ShownIn A) c ch (λ z. h) (λ e. if-elim (ShownIn A) (leb 2 dcd || leb 2 cts) (λ z. h) (settled-shown (c .a) _ h))
-    (λ e. if-elim (ShownIn A) (leb 2 dcd || leb 2 cts) (λ z. h) (λ z. h))
+    by-channel (ShownIn A) c ch (λ z. h) (λ e. if-elim AnsweredShown (leb 2 dcd || leb 2 cts) (λ z. h) (settled-shown (c .a) _ h))
+    (λ e z. h)
 event-shown B c (SetLines ch dcd cts) l h =
-    by-channel (ShownIn B) c ch (λ z. h) (λ e. if-elim (ShownIn B) (leb 2 dcd || leb 2 cts) (λ z. h) (λ z. h))
-    (λ e. if-elim (ShownIn B) (leb 2 dcd || leb 2 cts) (λ z. h) (settled-shown (c .b) _ h))
-event-shown w c Acknowledge l h = λ z. alike-shows (acknowledge-alike w c .1) h
-event-shown w c Reti l h = λ z. alike-shows (reti-alike w c .1) h
+    by-channel (ShownIn B) c ch (λ z. h) (λ e z. h)
+    (λ e. if-elim AnsweredShown (leb 2 dcd || leb 2 cts) (λ z. h) (settled-shown (c .b) _ h))
+event-shown w c Acknowledge l h = λ z. service-shows w c (acknowledged (pendingOf c) (serviceOf c)) h
+event-shown w c Reti l h = λ z. service-shows w c (ended (serviceOf c)) h
 
 -- Reset External/Status shows a latch that is set, whatever was shown before
 afresh-seen : (c : Channel) → LatchSet c → Shows (afresh (c .status) (liveOf c))

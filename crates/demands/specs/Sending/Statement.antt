@@ -8,25 +8,24 @@ use lib.ListN.{length, take, drop, replicate}
 use Rattle.common.specs.declared.Mode.the-variants.{Sdlc}
 use Rattle.line.specs.Check.{ones}
 use Rattle.line.specs.Frame.{flagBits, frame, zerosOf}
-use Rattle.sender.specs.declared.LineUnit.{LineUnit}
-use Rattle.sender.specs.declared.LineUnit.the-variants.{Mark, Flag, Byte, Check, Abort, Character}
-use Rattle.sender.specs.Sound.{SoundSender}
-use Rattle.queue.specs.declared.Entry.{Entry}
-use Rattle.queue.specs.Laws.{Holds}
-use Rattle.receiver.specs.declared.Receiving.{Receiving}
-use Rattle.receiver.specs.declared.Receiver.{Receiver}
+use Rattle.sdlc.specs.declared.LineUnit.the-variants.{Flag, Byte}
+use Rattle.sdlc.specs.declared.Addressing.{Addressing}
+use Rattle.sdlc.specs.declared.Listener.{Listener}
+use Rattle.sdlc.specs.Sound.{SoundUnit}
+use Rattle.sender.specs.Good.{Good}
+use Rattle.entry.specs.declared.Entry.{Entry}
+use Rattle.queue.specs.Holding.{Holds}
 use Rattle.settings.specs.Settings.{commandIn}
 use Rattle.chip.specs.declared.Chip.{Chip}
 use Rattle.chip.specs.Event.{Event, ControlWrite, DataWrite, Transmit}
-use Rattle.come.specs.Come.{Good}
-use Rattle.come.specs.Stage.{sinceAfter, inTime}
-use Rattle.come.specs.Start.{flagHead}
+use Rattle.frames.specs.Come.{opens}
+use Rattle.frames.specs.Stage.{sinceAfter, inTime}
+use Rattle.frames.specs.Start.{flagHead}
+use Rattle.frames.specs.Heard.{hearAll, flagFree, endMarks}
 use Rattle.stories.specs.Story.{Which, number, chan, happens, after}
 use Rattle.stories.specs.Sent.{Else, role, isTick, lineOf, ticks, d6, resetStatus}
 use Rattle.stories.specs.Received.{bitsOf}
 use Rattle.demands.specs.Receiving.Statement as receiving
-use Rattle.demands.specs.Receiving.Heard.{hearAll}
-use Rattle.demands.specs.Receiving.Deaf.{flagFree, endMarks, NoEndTold}
 use Rattle.demands.specs.Sending.Side.{sendingIn, sideOf, fullOf, latchOf}
 
 -- "Start during a flag with the SDLC sender on .., buffer empty, check preset to ones and included, underrun latch cleared, no break since it
@@ -36,10 +35,10 @@ pub record Start (w : Which) (c : Chip) (p : ℕ) : Type 0 where
   pub inside : p ≤ 8
   pub flag : chan w c .sender .unit ≡ Flag (8 - p)
   pub empty : fullOf w c ≡ false
-  pub preset : chan w c .sender .core .check ≡ ones
+  pub preset : chan w c .sender .shared .check ≡ ones
   pub cleared : latchOf w c ≡ false
   pub settings : Good (sendingIn (chan w c))
-  pub history : SoundSender (chan w c .sender)
+  pub history : SoundUnit (chan w c .sender .unit) (chan w c .sender .insertion)
 
 -- "Write n bytes .., the first during that flag, each next one after the buffer empties and before the eighth tick after that; do nothing else
 -- to the sender." A story in time from a chip on, n ticks after the buffer emptied, with `rest` to write, of which `left` is unwritten when
@@ -79,7 +78,7 @@ pub record Closing (w : Which) (c : Chip) (p : ℕ) : Type 0 where
   pub flag : chan w c .sender .unit ≡ Flag (8 - p)
   pub empty : fullOf w c ≡ false
   pub settings : Good (sendingIn (chan w c))
-  pub history : SoundSender (chan w c .sender)
+  pub history : SoundUnit (chan w c .sender .unit) (chan w c .sender .insertion)
   pub to-wr0 : chan w c .pointer ≡ 0
 
 -- WR0, "D7-6: .. 2 preset Tx check, 3 clear Underrun latch"
@@ -99,7 +98,7 @@ FrameEnds = (w : Which) (c : Chip) (p v : ℕ) (vs : List ℕ) (st : List Event)
 pub record RunsDry (w : Which) (c : Chip) : Type 0 where
   pub last : ℕ
   pub byte : chan w c .sender .unit ≡ Byte 0 last
-  pub paid : chan w c .sender .core .owed ≡ false
+  pub paid : chan w c .sender .insertion .owed ≡ false
   pub empty : fullOf w c ≡ false
   pub cleared : latchOf w c ≡ false
   pub settings : Good (sendingIn (chan w c))
@@ -169,15 +168,6 @@ pub data Watched (w : Which) : Chip → List Event → Type 0 where
   ticking : {c : Chip} {st : List Event} → (latchOf w c ≡ false → statusLatched w c ≡ false) → Watched w (happens c (Transmit (number w)) .chip) st
       → Watched w c (Transmit (number w) ∷ st)
 
--- an opening flag or a byte is under way
-abbrev pub opens : LineUnit → Bool
-opens Mark = false
-opens (Flag n) = true
-opens (Byte n v) = true
-opens (Check n v) = false
-opens (Abort n) = false
-opens (Character n v) = false
-
 abbrev pub NotClosed : Which → Chip → Type 0
 NotClosed w c = (latchOf w c ≡ false) × (opens (chan w c .sender .unit) ≡ true)
 
@@ -199,7 +189,7 @@ pub record SendsAbort (w : Which) (c : Chip) (v : ℕ) : Type 0 where
 -- may write, preset the check and clear the latch
 abbrev pub UnitKept : Which → Chip → Chip → Type 0
 UnitKept w c d =
-    (chan w d .sender .unit ≡ chan w c .sender .unit) × (chan w d .sender .core .owed ≡ chan w c .sender .core .owed) × (sideOf w d .heeds ≡ sideOf w c .heeds)
+    (chan w d .sender .unit ≡ chan w c .sender .unit) × (chan w d .sender .insertion .owed ≡ chan w c .sender .insertion .owed) × (sideOf w d .heeds ≡ sideOf w c .heeds)
 
 pub data LeftToRun (w : Which) : Chip → List Event → Type 0 where
   ended : {c : Chip} → LeftToRun w c []
@@ -213,9 +203,9 @@ pub record Aborted (w : Which) (c : Chip) (p : ℕ) (xs : List Event) (v : ℕ) 
       → lineOf w c (xs ++ (ControlWrite (number w) v ∷ ys)) ≡ lineOf w c xs ++ take (ticks w ys) (replicate 8 true ++ flagBits)
   -- "a receiver that was listening never reports an end for the frame which that flag opened": whatever its state, behind that flag, or what was
   -- sent of it, no end mark is handed over up to and including the next flag, zs being the bits between and b the last of that flag
-  pub no-end : (g : Receiving) → g .mode ≡ Sdlc → g .on ≡ true → (r : Receiver) (zs : List Bool) (b : Bool) → flagFree 7 zs ≡ true
+  pub no-end : (g : Addressing) (r : Listener) (zs : List Bool) (b : Bool) → flagFree 7 zs ≡ true
       → let sent = flagHead p ++ lineOf w c xs in
-      endMarks (hearAll g (hearAll g r (take 8 sent) .receiver) (drop 8 sent ++ (replicate 8 true ++ (zs ++ (b ∷ [])))) .got) ≡ 0
+      endMarks (hearAll g (hearAll g r (take 8 sent) .listener) (drop 8 sent ++ (replicate 8 true ++ (zs ++ (b ∷ [])))) .got) ≡ 0
 
 -- "before the closing flag's last bit"
 abbrev pub AbortCuts : Type 0
@@ -231,4 +221,4 @@ AbortUntold = (w : Which) (c : Chip) (p v : ℕ) (vs left : List ℕ) (xs : List
     → receiving.sideOf u r .settings .mode ≡ Sdlc → receiving.sideOf u r .settings .on ≡ true → chan u r .receiver .content .ones ≡ 0
     → Holds parity overrun (chan u r .queue) es → endMarks es ≡ 0 → receiving.Fed u r rs
     → bitsOf u rs ≡ drop 8 (flagHead p ++ lineOf w c xs) ++ (replicate 8 true ++ (zs ++ (b ∷ []))) → flagFree 7 zs ≡ true
-    → NoEndTold u r rs parity overrun
+    → receiving.NoEndTold u r rs parity overrun

@@ -10,8 +10,8 @@ use Rattle.common.specs.Tools.{void, both-left, both-right, not-true}
 use Rattle.line.specs.Frame.{frame, zerosOf}
 use Rattle.chip.specs.declared.Chip.{Chip}
 use Rattle.chip.specs.Event.{Event}
-use Rattle.come.specs.Stage.{sinceAfter, inTime}
-use Rattle.come.specs.Start.{flagHead}
+use Rattle.frames.specs.Stage.{sinceAfter, inTime}
+use Rattle.frames.specs.Start.{flagHead}
 use Rattle.stories.specs.Story.{Which, happens}
 use Rattle.stories.specs.Sent.{Role, Ticks, Writes, Else, role, ticksBy, lineOf, ticks}
 use Rattle.demands.specs.Sending.Side.{SenderSide, fullOf, latchOf, View, its-tick, its-write, other, view}
@@ -132,9 +132,9 @@ pub free-runs : (w : Which) {c : Chip} {st : List Event} → Free w c st → Lef
 free-runs w stated.ended = stated.ended
 free-runs w (stated.still {c = c} {e = x} r k f) =
     stated.kept (ap ticksBy r)
-    (ap (λ (s : SenderSide). s .sender .unit) k, ap (λ (s : SenderSide). s .sender .core .owed) k, ap (λ (s : SenderSide). s .heeds) k) (free-runs w f)
+    (ap (λ (s : SenderSide). s .sender .unit) k, ap (λ (s : SenderSide). s .sender .insertion .owed) k, ap (λ (s : SenderSide). s .heeds) k) (free-runs w f)
 free-runs w (stated.writes {c = c} {v = v} f) =
     let k = write-side w c v in
     stated.kept (write-no-tick w v)
-    (ap (λ (s : SenderSide). s .sender .unit) k, ap (λ (s : SenderSide). s .sender .core .owed) k, ap (λ (s : SenderSide). s .heeds) k) (free-runs w f)
+    (ap (λ (s : SenderSide). s .sender .unit) k, ap (λ (s : SenderSide). s .sender .insertion .owed) k, ap (λ (s : SenderSide). s .heeds) k) (free-runs w f)
 free-runs w (stated.ticking f) = stated.ticking (free-runs w f)

@@ -4,7 +4,7 @@ use native.Mathlib.Omega.{arith}
 use borrow.Author.Needs.{needs}
 use Rattle.line.specs.Bits.{lowBits}
 use Rattle.line.specs.Check.{checkOver}
-use Rattle.line.proofs.Laws.{low-step, low-none}
+use Rattle.line.specs.Laws.Bits.{low-step, low-none}
 use Rattle.line.proofs.check_byte.Statement.{statement}
 use Rattle.line.proofs.check_byte.Tie as tie
 

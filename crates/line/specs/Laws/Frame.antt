@@ -1,15 +1,17 @@
 -- Laws of a note's frame: its ticks, its inserted zeros, and that it is the frame of one note alone. Assumes nothing.
 use mathlib.Core.Path.{_≡_, refl, sym, ap, _∙_}
-use mathlib.Core.List.{List, [], _∷_, _++_, append-cancel-left, append-cancel-right}
+use mathlib.Core.List.{List, [], _∷_, _++_, append-nil, append-cancel-left, append-cancel-right}
 use mathlib.Core.Bool.{Bool}
 use Prim.Native.Nat.{ℕ, _+_, _*_, _/_, _≤_, _<_}
 use native.Mathlib.Omega.{arith}
-use lib.ListN.{length, take, length-append}
+use lib.ListN.{length, take, drop, length-append, length-take, length-drop, take-append-drop}
 use lib.Seq.{take-at}
+use Rattle.line.specs.Bits.{lowBits, textBits, fromLow, Below}
 use Rattle.line.specs.Check.{sdlc, ones, checkOver, checkBits, remainder}
 use Rattle.line.specs.Insertion.{stuff, zeros, unstuff}
-use Rattle.line.specs.Frame.{flagBits, noteBits, checkOf, contentOf, frame, zerosOf, ticksOf}
-use Rattle.line.specs.Laws.Bits.{textBits-length, textBits-same, Below}
+use Rattle.line.specs.Frame.{flagBits, noteBits, checkOf, contentOf, checkBytes, withCheck}
+use Rattle.line.specs.Frame.{frame, zerosOf, ticksOf}
+use Rattle.line.specs.Laws.Bits.{lowBits-fromLow, textBits-join, textBits-length, textBits-same}
 use Rattle.line.specs.Laws.Check.{checkBits-length, check-good}
 use Rattle.line.specs.Laws.Insertion.{stuff-length, zeros-bound, unstuff-stuff}
 
@@ -24,6 +26,25 @@ ticks-are note = omega (arith, length-append (stuff 0 (contentOf note)) flagBits
 
 pub zeros-few : (note : List ℕ) → zerosOf note ≤ 8 * (length note + 2) / 5
 zeros-few note = omega (arith, zeros-bound 0 (contentOf note), content-length note)
+
+-- the content is the bits of the note's bytes and of the check's two
+byte-of : (bs : List Bool) → length bs ≡ 8 → lowBits 8 (fromLow bs) ≡ bs
+byte-of bs e = rw e at (lowBits-fromLow bs)
+
+pub checkBytes-bits : (r : ℕ) → textBits 8 (checkBytes r) ≡ checkBits r
+unfolding checkBytes textBits
+checkBytes-bits r =
+    let bits = checkBits r in
+    let first : length (take 8 bits) ≡ 8 = rw (length-take 8 bits, checkBits-length r) in
+    let last : length (drop 8 bits) ≡ 8 = rw (length-drop 8 bits, checkBits-length r) in
+    rw (byte-of (take 8 bits) first, byte-of (drop 8 bits) last, append-nil (drop 8 bits))
+    (take-append-drop 8 bits)
+
+pub content-is : (note : List ℕ) → contentOf note ≡ textBits 8 (withCheck note)
+content-is note =
+    let r = checkOf note in
+    ap (λ (l : List Bool). noteBits note ++ l) (sym (checkBytes-bits r))
+    ∙ sym (textBits-join 8 note (checkBytes r))
 
 -- a receiver that starts from ones ends with the remainder of a good frame
 pub content-good : (note : List ℕ) → checkOver sdlc ones (contentOf note) ≡ remainder

@@ -54,6 +54,17 @@ zeros-bound run (true ∷ bs) =
     (λ l. omega (arith, zeros-bound (run + 1) bs))
     (λ l. omega (arith, zeros-bound 0 bs))
 
+-- from any run, also one that no history makes, since that counts as four
+pub zeros-most : (run : ℕ) (bs : List Bool) → 5 * zeros run bs ≤ 4 + length bs
+unfolding zeros
+zeros-most run [] = omega arith
+zeros-most run (false ∷ bs) = omega (arith, zeros-bound 0 bs)
+zeros-most run (true ∷ bs) =
+    ltb-elim (λ t. 5 * (oneIf (not t) + zeros (if t then run + 1 else 0) bs) ≤ 4 + suc (length bs))
+    run 4
+    (λ l. omega (arith, zeros-bound (run + 1) bs))
+    (λ l. omega (arith, zeros-bound 0 bs))
+
 -- taking the inserted zeros out again gives the content
 pub unstuff-stuff : (run : ℕ) (bs : List Bool) → run < 5 → unstuff run (stuff run bs) ≡ bs
 unfolding stuff unstuff

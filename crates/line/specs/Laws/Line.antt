@@ -1,24 +1,17 @@
--- What a note that fits is known to be: not empty, and short enough for its line to have a bound. Assumes nothing.
+-- What a note that has a line is known to be: not empty, and not too long. Assumes nothing.
 use mathlib.Core.Path.{_≡_, refl}
 use mathlib.Core.Logic.{_≢_}
 use mathlib.Core.Bool.{Bool, true, false, not, _&&_, false≢true}
-use mathlib.Core.List.{List}
 use Prim.Native.Nat.{ℕ, _≤_}
 use native.Mathlib.Omega.{arith}
-use lib.ListN.{length}
 use lib.Dec.{eqb, leb}
 use borrow.Author.Tests.{eqb-false, leb-true}
-use Rattle.line.specs.Frame.{ticksOf}
 use Rattle.line.specs.Line.{noteFits}
-use Rattle.line.specs.Laws.Frame.{ticks-are, zeros-few}
 
 pub fits-few : (n : ℕ) → noteFits n ≡ true → (1 ≤ n) × (n ≤ 2048)
 fits-few n e = go (eqb n 0) (leb n 2048) (eqb-false n 0) (leb-true n 2048) e
   where
-    go : (a b : Bool) → (a ≡ false → n ≢ 0) → (b ≡ true → n ≤ 2048) → not a && b ≡ true → (1 ≤ n) × (n ≤ 2048)
+    go : (a b : Bool) → (a ≡ false → n ≢ 0) → (b ≡ true → n ≤ 2048) → not a && b ≡ true
+        → (1 ≤ n) × (n ≤ 2048)
     go true b f g p = absurd (false≢true p)
     go false b f g p = let h = f refl in (omega arith, g p)
-
--- the longest line: 8(2,048+2)+16 bits and 8(2,048+2)/5 zeros
-pub line-short : (note : List ℕ) → length note ≤ 2048 → ticksOf note ≤ 19696
-line-short note h = omega (arith, ticks-are note, zeros-few note)

@@ -1,6 +1,6 @@
 -- `station::send` meets its contract. Assumes nothing.
 use mathlib.Core.Path.{_≡_, refl, sym, ap, _∙_}
-use Rattle.station.specs.Drive.{sendOf}
+use Rattle.station.specs.Station.{sendOf}
 use Rattle.station.proofs.Branch.{tests}
 use borrow.Author.Needs.{needs}
 use Rattle.station.proofs.send.Statement.{statement}

@@ -1,12 +1,12 @@
+-- `channel::Channel::command_step` meets its contract: each return by the facts on its way. Assumes nothing.
 use Rattle.channel.proofs.Branch.{tests}
 use Rattle.channel.specs.Control.{commandStep}
 use borrow.Author.Needs.{needs}
 use Rattle.channel.proofs.Channel.command_step.Statement.{statement}
 use Rattle.channel.proofs.Channel.command_step.Tie as tie
-use Rattle.channel.proofs.Channel.command_step.Reads as reads
-use Rattle.channel.proofs.Channel.command_step.Lts as lts
-use Rattle.channel.proofs.Channel.commanded.Reads as commanded-reads
-use Rattle.channel.proofs.Channel.settled.Reads as settled-reads
+
+command-in-requires : tie.Need-command-in-requires
+command-in-requires c κs = search needs
 
 commanded-requires : tie.Need-commanded-requires
 commanded-requires c κs = search needs
@@ -16,7 +16,8 @@ settled-requires c κs = search needs
 
 returns : tie.Need-returns
 unfolding commandStep
-returns c = simp (tests, ← c .before .commanded .ensures) (c .settled .ensures)
+returns c = simp (tests, ← c .before .commanded .ensures, ← c .before .before .command-in .ensures) (c .settled .ensures)
 
 pub command-step-spec : {M : Type 1} → statement M
-command-step-spec = tie.close (tie.spec commanded-requires settled-requires returns)
+command-step-spec =
+    tie.close (tie.spec command-in-requires commanded-requires settled-requires returns)

@@ -1,15 +1,9 @@
+-- `channel::Channel::commanded` meets its contract: each return by the facts on its way. Assumes nothing.
 use Rattle.channel.proofs.Branch.{tests}
 use Rattle.channel.specs.Control.{commanded}
 use borrow.Author.Needs.{needs}
 use Rattle.channel.proofs.Channel.commanded.Statement.{statement}
 use Rattle.channel.proofs.Channel.commanded.Tie as tie
-use Rattle.channel.proofs.Channel.commanded.Reads as reads
-use Rattle.channel.proofs.Channel.commanded.Lts as lts
-use Rattle.channel.proofs.Channel.live.Reads as live-reads
-use Rattle.channel.proofs.Status.afresh.Reads as afresh-reads
-use Rattle.queue.proofs.Queue.error_reset.Reads as error-reset-reads
-use Rattle.sender.proofs.Sender.send_abort.Reads as send-abort-reads
-use Rattle.settings.proofs.Registers.sending.Reads as sending-reads
 
 sending-requires : tie.Need-sending-requires
 sending-requires c κs = search needs
@@ -28,11 +22,11 @@ error-reset-requires c κs = search needs
 
 returns : tie.Need-returns
 unfolding commanded
-returns c = simp (tests, c .send-abort .ensures, c .before .before .before .before .before .match .keys1, ← c .before .sending .ensures)
+returns c = simp (tests, c .send-abort .ensures, c .before .before .match .keys1, ← c .before .sending .ensures)
 
 returns-2 : tie.Need-returns-2
 unfolding commanded
-returns-2 c = simp (tests, c .afresh .ensures, c .before .before .before .match .keys2, ← c .before .live .ensures)
+returns-2 c = simp (tests, c .afresh .ensures, c .before .before .match .keys2, ← c .before .live .ensures)
 
 returns-3 : tie.Need-returns-3
 unfolding commanded
@@ -44,7 +38,7 @@ returns-4 c = simp (tests, c .match .keys4)
 
 returns-5 : tie.Need-returns-5
 unfolding commanded
-returns-5 c = simp (tests, c .error-reset .ensures, c .before .before .match .keys5)
+returns-5 c = simp (tests, c .error-reset .ensures, c .before .match .keys5)
 
 returns-6 : tie.Need-returns-6
 unfolding commanded

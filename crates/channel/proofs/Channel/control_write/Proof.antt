@@ -1,14 +1,9 @@
+-- `channel::Channel::control_write` meets its contract: each return by the facts on its way. Assumes nothing.
 use Rattle.channel.proofs.Branch.{tests}
 use Rattle.channel.specs.Control.{controlWritten}
 use borrow.Author.Needs.{needs}
 use Rattle.channel.proofs.Channel.control_write.Statement.{statement}
 use Rattle.channel.proofs.Channel.control_write.Tie as tie
-use Rattle.channel.proofs.Channel.control_write.Reads as reads
-use Rattle.channel.proofs.Channel.control_write.Lts as lts
-use Rattle.channel.proofs.Channel.set_register.Reads as set-register-reads
-use Rattle.channel.proofs.Channel.settled.Reads as settled-reads
-use Rattle.channel.proofs.Channel.write_wr0.Reads as write-wr0-reads
-use Rattle.settings.proofs.not_built.Reads as not-built-reads
 
 write-wr0-requires : tie.Need-write-wr0-requires
 write-wr0-requires c κs = search needs
@@ -22,7 +17,7 @@ not-built-requires c κs = search needs
 
 returns-2 : tie.Need-returns-2
 unfolding controlWritten
-returns-2 c = simp (tests, c .if2 .taken, c .before .before .if1 .left, ← c .before .not-built .ensures)
+returns-2 c = simp (tests, c .if2 .taken, c .before .before .before .if1 .left, ← c .before .not-built .ensures)
 
 set-register-requires : tie.Need-set-register-requires
 set-register-requires c κs = search needs
@@ -32,7 +27,15 @@ settled-requires c κs = search needs
 
 returns-3 : tie.Need-returns-3
 unfolding controlWritten
-returns-3 c = simp (tests, c .settled .ensures, c .before .before .if2 .left, c .before .before .before .before .if1 .left, ← c .before .set-register .ensures, ← c .before .before .before .not-built .ensures)
+returns-3 c =
+    simp (
+      tests,
+      c .settled .ensures,
+      c .before .before .if2 .left,
+      c .before .before .before .before .before .if1 .left,
+      ← c .before .set-register .ensures,
+      ← c .before .before .before .not-built .ensures,
+    )
 
 pub control-write-spec : {M : Type 1} → statement M
 control-write-spec =

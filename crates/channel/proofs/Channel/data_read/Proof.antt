@@ -1,13 +1,9 @@
+-- `channel::Channel::data_read` meets its contract: each return by the facts on its way. Assumes nothing.
 use Rattle.channel.proofs.Branch.{tests}
 use Rattle.channel.specs.Events.{dataRead}
 use borrow.Author.Needs.{needs}
 use Rattle.channel.proofs.Channel.data_read.Statement.{statement}
 use Rattle.channel.proofs.Channel.data_read.Tie as tie
-use Rattle.channel.proofs.Channel.data_read.Reads as reads
-use Rattle.channel.proofs.Channel.data_read.Lts as lts
-use Rattle.queue.proofs.Queue.oldest.Reads as oldest-reads
-use Rattle.queue.proofs.Queue.take.Reads as take-reads
-use Rattle.queue.proofs.Queue.waits.Reads as waits-reads
 
 waits-requires : tie.Need-waits-requires
 waits-requires c κs = search needs

@@ -1,10 +1,8 @@
+-- `channel::Channel::data_write` meets its contract: each return by the facts on its way. Assumes nothing.
 use Rattle.channel.proofs.Branch.{tests}
 use borrow.Author.Needs.{needs}
 use Rattle.channel.proofs.Channel.data_write.Statement.{statement}
 use Rattle.channel.proofs.Channel.data_write.Tie as tie
-use Rattle.channel.proofs.Channel.data_write.Reads as reads
-use Rattle.channel.proofs.Channel.data_write.Lts as lts
-use Rattle.sender.proofs.Sender.write.Reads as write-reads
 
 write-requires : tie.Need-write-requires
 write-requires c κs = search needs

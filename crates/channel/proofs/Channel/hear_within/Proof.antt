@@ -1,14 +1,21 @@
--- `channel::Channel::hear_within` meets its contract. Assumes nothing.
+-- `channel::Channel::hear_within` meets its contract: each return by the facts on its way. Assumes nothing.
 use Rattle.channel.proofs.Branch.{tests}
 use borrow.Author.Needs.{needs}
 use Rattle.channel.proofs.Channel.hear_within.Statement.{statement}
 use Rattle.channel.proofs.Channel.hear_within.Tie as tie
 
+listener-requires : tie.Need-listener-requires
+listener-requires c κs = search needs
+
 hear-within-requires : tie.Need-hear-within-requires
 hear-within-requires c κs = search needs
 
+with-listener-requires : tie.Need-with-listener-requires
+with-listener-requires c κs = search needs
+
 returns : tie.Need-returns
-returns c = simp (tests, c .hear-within .ensures)
+returns c = simp (tests, c .with-listener .ensures, ← c .before .hear-within .ensures, ← c .before .before .listener .ensures)
 
 pub hear-within-spec : {M : Type 1} → statement M
-hear-within-spec = tie.close (tie.spec hear-within-requires returns)
+hear-within-spec =
+    tie.close (tie.spec listener-requires hear-within-requires with-listener-requires returns)

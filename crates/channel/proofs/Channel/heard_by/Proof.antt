@@ -1,10 +1,8 @@
+-- `channel::Channel::heard_by` meets its contract: each return by the facts on its way. Assumes nothing.
 use Rattle.channel.proofs.Branch.{tests}
 use borrow.Author.Needs.{needs}
 use Rattle.channel.proofs.Channel.heard_by.Statement.{statement}
 use Rattle.channel.proofs.Channel.heard_by.Tie as tie
-use Rattle.channel.proofs.Channel.heard_by.Reads as reads
-use Rattle.channel.proofs.Channel.heard_by.Lts as lts
-use Rattle.channel.proofs.Channel.queued.Reads as queued-reads
 
 queued-requires : tie.Need-queued-requires
 queued-requires c κs = search needs

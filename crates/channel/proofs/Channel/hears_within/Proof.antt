@@ -11,12 +11,17 @@ receiving-requires c κs = search needs
 in-sdlc-requires : tie.Need-in-sdlc-requires
 in-sdlc-requires c κs = search needs
 
-within-requires : tie.Need-within-requires
-within-requires c κs = search needs
+listener-requires : tie.Need-listener-requires
+listener-requires c κs = search needs
+
+hears-within-requires : tie.Need-hears-within-requires
+hears-within-requires c κs = search needs
 
 returns : tie.Need-returns
 unfolding hearsWithin
-returns c = simp (tests, c .before .within .ensures, ← c .before .before .in-sdlc .ensures, ← c .before .before .before .receiving .ensures)
+returns c = simp (tests, ← c .before .hears-within .ensures, ← c .before .before .listener .ensures, ← c .before .before .before .in-sdlc .ensures, ← c .before .before .before .before .receiving .ensures)
 
 pub hears-within-spec : {M : Type 1} → statement M
-hears-within-spec = tie.close (tie.spec receiving-requires in-sdlc-requires within-requires returns)
+hears-within-spec =
+    tie.close
+    (tie.spec receiving-requires in-sdlc-requires listener-requires hears-within-requires returns)

@@ -1,12 +1,8 @@
+-- `channel::Channel::in_mode` meets its contract: each return by the facts on its way. Assumes nothing.
 use Rattle.channel.proofs.Branch.{tests}
 use borrow.Author.Needs.{needs}
 use Rattle.channel.proofs.Channel.in_mode.Statement.{statement}
 use Rattle.channel.proofs.Channel.in_mode.Tie as tie
-use Rattle.channel.proofs.Channel.in_mode.Reads as reads
-use Rattle.channel.proofs.Channel.in_mode.Lts as lts
-use Rattle.common.proofs.in_sdlc.Reads as in-sdlc-reads
-use Rattle.receiver.proofs.Receiver.mode_changed.Reads as mode-changed-reads
-use Rattle.sender.proofs.Sender.idle.Reads as idle-reads
 
 idle-requires : tie.Need-idle-requires
 idle-requires c κs = search needs

@@ -1,12 +1,9 @@
+-- `channel::Channel::live` meets its contract: each return by the facts on its way. Assumes nothing.
 use Rattle.channel.proofs.Branch.{tests}
 use Rattle.channel.specs.Channel.{liveOf}
 use borrow.Author.Needs.{needs}
 use Rattle.channel.proofs.Channel.live.Statement.{statement}
 use Rattle.channel.proofs.Channel.live.Tie as tie
-use Rattle.channel.proofs.Channel.live.Reads as reads
-use Rattle.channel.proofs.Channel.live.Lts as lts
-use Rattle.receiver.proofs.Receiver.hunting.Reads as hunting-reads
-use Rattle.settings.proofs.Registers.receiving.Reads as receiving-reads
 
 receiving-requires : tie.Need-receiving-requires
 receiving-requires c κs = search needs

@@ -1,13 +1,9 @@
+-- `channel::Channel::preset` meets its contract: each return by the facts on its way. Assumes nothing.
 use Rattle.channel.proofs.Branch.{tests}
 use Rattle.channel.specs.Control.{preset}
 use borrow.Author.Needs.{needs}
 use Rattle.channel.proofs.Channel.preset.Statement.{statement}
 use Rattle.channel.proofs.Channel.preset.Tie as tie
-use Rattle.channel.proofs.Channel.preset.Reads as reads
-use Rattle.channel.proofs.Channel.preset.Lts as lts
-use Rattle.receiver.proofs.Receiver.preset_check.Reads as Receiver-preset-check-reads
-use Rattle.sender.proofs.Sender.clear_latch.Reads as clear-latch-reads
-use Rattle.sender.proofs.Sender.preset_check.Reads as Sender-preset-check-reads
 
 preset-check-requires : tie.Need-preset-check-requires
 preset-check-requires c κs = search needs
@@ -20,15 +16,15 @@ clear-latch-requires c κs = search needs
 
 returns : tie.Need-returns
 unfolding preset
-returns c = simp (tests, c .preset-check .ensures, c .before .before .match .keys1)
+returns c = simp (tests, c .preset-check .ensures, c .before .match .keys1)
 
 returns-2 : tie.Need-returns-2
 unfolding preset
-returns-2 c = simp (tests, c .preset-check2 .ensures, c .before .before .match .keys2)
+returns-2 c = simp (tests, c .preset-check2 .ensures, c .before .match .keys2)
 
 returns-3 : tie.Need-returns-3
 unfolding preset
-returns-3 c = simp (tests, c .clear-latch .ensures, c .before .before .match .keys3)
+returns-3 c = simp (tests, c .clear-latch .ensures, c .before .match .keys3)
 
 returns-4 : tie.Need-returns-4
 unfolding preset

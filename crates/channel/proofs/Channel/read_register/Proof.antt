@@ -1,12 +1,9 @@
+-- `channel::Channel::read_register` meets its contract: each return by the facts on its way. Assumes nothing.
 use Rattle.channel.proofs.Branch.{tests}
 use Rattle.channel.specs.Control.{readRegister}
 use borrow.Author.Needs.{needs}
 use Rattle.channel.proofs.Channel.read_register.Statement.{statement}
 use Rattle.channel.proofs.Channel.read_register.Tie as tie
-use Rattle.channel.proofs.Channel.read_register.Reads as reads
-use Rattle.channel.proofs.Channel.read_register.Lts as lts
-use Rattle.channel.proofs.Channel.rr0.Reads as rr0-reads
-use Rattle.channel.proofs.Channel.rr1.Reads as rr1-reads
 
 rr0-requires : tie.Need-rr0-requires
 rr0-requires c κs = search needs

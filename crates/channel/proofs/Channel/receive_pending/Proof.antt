@@ -1,12 +1,12 @@
+-- `channel::Channel::receive_pending` meets its contract: each return by the facts on its way. Assumes nothing.
 use Rattle.channel.proofs.Branch.{tests}
 use Rattle.channel.specs.Events.{receivePending}
 use borrow.Author.Needs.{needs}
 use Rattle.channel.proofs.Channel.receive_pending.Statement.{statement}
 use Rattle.channel.proofs.Channel.receive_pending.Tie as tie
-use Rattle.channel.proofs.Channel.receive_pending.Reads as reads
-use Rattle.channel.proofs.Channel.receive_pending.Lts as lts
-use Rattle.channel.proofs.Channel.special_waits.Reads as special-waits-reads
-use Rattle.queue.proofs.Queue.waits.Reads as waits-reads
+
+receive-mode-requires : tie.Need-receive-mode-requires
+receive-mode-requires c κs = search needs
 
 waits-requires : tie.Need-waits-requires
 waits-requires c κs = search needs
@@ -16,7 +16,8 @@ special-waits-requires c κs = search needs
 
 returns : tie.Need-returns
 unfolding receivePending
-returns c = simp (tests, c .special-waits .ensures, ← c .before .before .waits .ensures)
+returns c = simp (tests, c .special-waits .ensures, ← c .before .before .waits .ensures, ← c .before .before .before .receive-mode .ensures)
 
 pub receive-pending-spec : {M : Type 1} → statement M
-receive-pending-spec = tie.close (tie.spec waits-requires special-waits-requires returns)
+receive-pending-spec =
+    tie.close (tie.spec receive-mode-requires waits-requires special-waits-requires returns)

@@ -1,14 +1,9 @@
+-- `channel::Channel::receive_tick` meets its contract: each return by the facts on its way. Assumes nothing.
 use Rattle.channel.proofs.Branch.{tests}
 use Rattle.channel.specs.Events.{receiveTick}
 use borrow.Author.Needs.{needs}
 use Rattle.channel.proofs.Channel.receive_tick.Statement.{statement}
 use Rattle.channel.proofs.Channel.receive_tick.Tie as tie
-use Rattle.channel.proofs.Channel.receive_tick.Reads as reads
-use Rattle.channel.proofs.Channel.receive_tick.Lts as lts
-use Rattle.channel.proofs.Channel.heard_by.Reads as heard-by-reads
-use Rattle.channel.proofs.Channel.settled.Reads as settled-reads
-use Rattle.receiver.proofs.Receiver.hear.Reads as hear-reads
-use Rattle.settings.proofs.Registers.receiving.Reads as receiving-reads
 
 receiving-requires : tie.Need-receiving-requires
 receiving-requires c κs = search needs

@@ -1,14 +1,8 @@
+-- `channel::Channel::reset` meets its contract: each return by the facts on its way. Assumes nothing.
 use Rattle.channel.proofs.Branch.{tests}
 use borrow.Author.Needs.{needs}
 use Rattle.channel.proofs.Channel.reset.Statement.{statement}
 use Rattle.channel.proofs.Channel.reset.Tie as tie
-use Rattle.channel.proofs.Channel.reset.Reads as reads
-use Rattle.channel.proofs.Channel.reset.Lts as lts
-use Rattle.channel.proofs.Live.quiet.Reads as quiet-reads
-use Rattle.channel.proofs.Sources.none.Reads as none-reads
-use Rattle.queue.proofs.Queue.empty.Reads as empty-reads
-use Rattle.receiver.proofs.Receiver.reset.Reads as Receiver-reset-reads
-use Rattle.sender.proofs.Sender.reset.Reads as Sender-reset-reads
 
 reset-requires : tie.Need-reset-requires
 reset-requires c κs = search needs

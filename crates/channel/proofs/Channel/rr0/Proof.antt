@@ -1,15 +1,8 @@
-use Rattle.channel.proofs.Branch.{tests}
+-- `channel::Channel::rr0` meets its contract: each return by the facts on its way. Assumes nothing.
 use Rattle.channel.specs.Control.{rr0}
 use borrow.Author.Needs.{needs}
 use Rattle.channel.proofs.Channel.rr0.Statement.{statement}
 use Rattle.channel.proofs.Channel.rr0.Tie as tie
-use Rattle.channel.proofs.Channel.rr0.Reads as reads
-use Rattle.channel.proofs.Channel.rr0.Lts as lts
-use Rattle.channel.proofs.Channel.live.Reads as live-reads
-use Rattle.channel.proofs.Status.shown_bits.Reads as shown-bits-reads
-use Rattle.common.proofs.placed.Reads as placed-reads
-use Rattle.queue.proofs.Queue.waits.Reads as waits-reads
-use Rattle.sender.proofs.Sender.buffer_ready.Reads as buffer-ready-reads
 
 live-requires : tie.Need-live-requires
 live-requires c κs = search needs

@@ -1,13 +1,9 @@
+-- `channel::Channel::rr1` meets its contract: each return by the facts on its way. Assumes nothing.
 use Rattle.channel.proofs.Branch.{tests}
 use Rattle.channel.specs.Control.{rr1Now}
 use borrow.Author.Needs.{needs}
 use Rattle.channel.proofs.Channel.rr1.Statement.{statement}
 use Rattle.channel.proofs.Channel.rr1.Tie as tie
-use Rattle.channel.proofs.Channel.rr1.Reads as reads
-use Rattle.channel.proofs.Channel.rr1.Lts as lts
-use Rattle.queue.proofs.Queue.rr1.Reads as rr1-reads
-use Rattle.sender.proofs.Sender.all_sent.Reads as all-sent-reads
-use Rattle.settings.proofs.Registers.sending.Reads as sending-reads
 
 sending-requires : tie.Need-sending-requires
 sending-requires c κs = search needs

@@ -1,11 +1,8 @@
-use Rattle.channel.proofs.Branch.{tests}
+-- `channel::Channel::set_lines` meets its contract: each return by the facts on its way. Assumes nothing.
 use Rattle.channel.specs.Events.{linesSet}
 use borrow.Author.Needs.{needs}
 use Rattle.channel.proofs.Channel.set_lines.Statement.{statement}
 use Rattle.channel.proofs.Channel.set_lines.Tie as tie
-use Rattle.channel.proofs.Channel.set_lines.Reads as reads
-use Rattle.channel.proofs.Channel.set_lines.Lts as lts
-use Rattle.channel.proofs.Channel.settled.Reads as settled-reads
 
 settled-requires : tie.Need-settled-requires
 settled-requires c κs = search needs

@@ -1,14 +1,9 @@
+-- `channel::Channel::set_register` meets its contract: each return by the facts on its way. Assumes nothing.
 use Rattle.channel.proofs.Branch.{tests}
 use Rattle.channel.specs.Control.{setRegister}
 use borrow.Author.Needs.{needs}
 use Rattle.channel.proofs.Channel.set_register.Statement.{statement}
 use Rattle.channel.proofs.Channel.set_register.Tie as tie
-use Rattle.channel.proofs.Channel.set_register.Reads as reads
-use Rattle.channel.proofs.Channel.set_register.Lts as lts
-use Rattle.channel.proofs.Channel.set_wr1.Reads as set-wr1-reads
-use Rattle.channel.proofs.Channel.set_wr2.Reads as set-wr2-reads
-use Rattle.channel.proofs.Channel.set_wr3.Reads as set-wr3-reads
-use Rattle.channel.proofs.Channel.set_wr4.Reads as set-wr4-reads
 
 set-wr1-requires : tie.Need-set-wr1-requires
 set-wr1-requires c κs = search needs

@@ -1,9 +1,8 @@
+-- `channel::Channel::set_wr2` meets its contract: each return by the facts on its way. Assumes nothing.
 use Rattle.channel.proofs.Branch.{tests}
 use borrow.Author.Needs.{needs}
 use Rattle.channel.proofs.Channel.set_wr2.Statement.{statement}
 use Rattle.channel.proofs.Channel.set_wr2.Tie as tie
-use Rattle.channel.proofs.Channel.set_wr2.Reads as reads
-use Rattle.channel.proofs.Channel.set_wr2.Lts as lts
 
 enum-told : tie.Need-enum-told
 enum-told c = search needs

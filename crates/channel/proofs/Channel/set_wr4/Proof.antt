@@ -1,13 +1,9 @@
+-- `channel::Channel::set_wr4` meets its contract: each return by the facts on its way. Assumes nothing.
 use Rattle.channel.proofs.Branch.{tests}
 use Rattle.channel.specs.Control.{setWr4}
 use borrow.Author.Needs.{needs}
 use Rattle.channel.proofs.Channel.set_wr4.Statement.{statement}
 use Rattle.channel.proofs.Channel.set_wr4.Tie as tie
-use Rattle.channel.proofs.Channel.set_wr4.Reads as reads
-use Rattle.channel.proofs.Channel.set_wr4.Lts as lts
-use Rattle.channel.proofs.Channel.in_mode.Reads as in-mode-reads
-use Rattle.channel.proofs.control.same_mode.Reads as same-mode-reads
-use Rattle.settings.proofs.mode_of.Reads as mode-of-reads
 
 mode-of-requires : tie.Need-mode-of-requires
 mode-of-requires c κs = search needs

@@ -1,12 +1,9 @@
+-- `channel::Channel::settled` meets its contract: each return by the facts on its way. Assumes nothing.
 use Rattle.channel.proofs.Branch.{tests}
 use Rattle.channel.specs.Channel.{settled}
 use borrow.Author.Needs.{needs}
 use Rattle.channel.proofs.Channel.settled.Statement.{statement}
 use Rattle.channel.proofs.Channel.settled.Tie as tie
-use Rattle.channel.proofs.Channel.settled.Reads as reads
-use Rattle.channel.proofs.Channel.settled.Lts as lts
-use Rattle.channel.proofs.Channel.live.Reads as live-reads
-use Rattle.channel.proofs.Status.noticed.Reads as noticed-reads
 
 live-requires : tie.Need-live-requires
 live-requires c κs = search needs

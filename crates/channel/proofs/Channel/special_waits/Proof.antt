@@ -1,18 +1,19 @@
-use Rattle.channel.proofs.Branch.{tests}
+-- `channel::Channel::special_waits` meets its contract: each return by the facts on its way. Assumes nothing.
 use Rattle.channel.specs.Events.{specialWaits}
+use Rattle.channel.proofs.Branch.{tests}
 use borrow.Author.Needs.{needs}
 use Rattle.channel.proofs.Channel.special_waits.Statement.{statement}
 use Rattle.channel.proofs.Channel.special_waits.Tie as tie
-use Rattle.channel.proofs.Channel.special_waits.Reads as reads
-use Rattle.channel.proofs.Channel.special_waits.Lts as lts
-use Rattle.queue.proofs.Queue.special.Reads as special-reads
+
+receive-mode-requires : tie.Need-receive-mode-requires
+receive-mode-requires c κs = search needs
 
 special-requires : tie.Need-special-requires
 special-requires c κs = search needs
 
 returns : tie.Need-returns
 unfolding specialWaits
-returns c = c .special .ensures
+returns c = simp (tests, ← c .before .receive-mode .ensures) (c .special .ensures)
 
 pub special-waits-spec : {M : Type 1} → statement M
-special-waits-spec = tie.close (tie.spec special-requires returns)
+special-waits-spec = tie.close (tie.spec receive-mode-requires special-requires returns)

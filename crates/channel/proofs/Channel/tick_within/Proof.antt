@@ -5,15 +5,23 @@ use borrow.Author.Needs.{needs}
 use Rattle.channel.proofs.Channel.tick_within.Statement.{statement}
 use Rattle.channel.proofs.Channel.tick_within.Tie as tie
 
+framer-requires : tie.Need-framer-requires
+framer-requires c κs = search needs
+
 tick-within-requires : tie.Need-tick-within-requires
 tick-within-requires c κs = search needs
+
+with-framer-requires : tie.Need-with-framer-requires
+with-framer-requires c κs = search needs
 
 cell-requires : tie.Need-cell-requires
 cell-requires c κs = search needs
 
 returns : tie.Need-returns
 unfolding tickedWithin
-returns c = simp (tests, c .cell .ensures, ← c .before .before .tick-within .ensures)
+returns c = simp (tests, c .cell .ensures, ← c .before .with-framer .ensures, ← c .before .before .tick-within .ensures, ← c .before .before .before .framer .ensures)
 
 pub tick-within-spec : {M : Type 1} → statement M
-tick-within-spec = tie.close (tie.spec tick-within-requires cell-requires returns)
+tick-within-spec =
+    tie.close
+    (tie.spec framer-requires tick-within-requires with-framer-requires cell-requires returns)

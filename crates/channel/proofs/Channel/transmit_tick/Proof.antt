@@ -1,15 +1,9 @@
+-- `channel::Channel::transmit_tick` meets its contract: each return by the facts on its way. Assumes nothing.
 use Rattle.channel.proofs.Branch.{tests}
 use Rattle.channel.specs.Events.{transmitTick}
 use borrow.Author.Needs.{needs}
 use Rattle.channel.proofs.Channel.transmit_tick.Statement.{statement}
 use Rattle.channel.proofs.Channel.transmit_tick.Tie as tie
-use Rattle.channel.proofs.Channel.transmit_tick.Reads as reads
-use Rattle.channel.proofs.Channel.transmit_tick.Lts as lts
-use Rattle.channel.proofs.Channel.after_tick.Reads as after-tick-reads
-use Rattle.channel.proofs.Channel.settled.Reads as settled-reads
-use Rattle.channel.proofs.events.cell.Reads as cell-reads
-use Rattle.sender.proofs.Sender.tick.Reads as tick-reads
-use Rattle.settings.proofs.Registers.sending.Reads as sending-reads
 
 sending-requires : tie.Need-sending-requires
 sending-requires c κs = search needs

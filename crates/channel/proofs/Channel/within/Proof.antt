@@ -11,12 +11,16 @@ sending-requires c κs = search needs
 in-sdlc-requires : tie.Need-in-sdlc-requires
 in-sdlc-requires c κs = search needs
 
+framer-requires : tie.Need-framer-requires
+framer-requires c κs = search needs
+
 within-requires : tie.Need-within-requires
 within-requires c κs = search needs
 
 returns : tie.Need-returns
 unfolding withinByte
-returns c = simp (tests, c .within .ensures, ← c .before .before .in-sdlc .ensures, ← c .before .before .before .sending .ensures)
+returns c = simp (tests, c .within .ensures, c .before .framer .ensures, c .before .before .before .in-sdlc .ensures, c .before .before .before .before .sending .ensures)
 
 pub within-spec : {M : Type 1} → statement M
-within-spec = tie.close (tie.spec sending-requires in-sdlc-requires within-requires returns)
+within-spec =
+    tie.close (tie.spec sending-requires in-sdlc-requires framer-requires within-requires returns)

@@ -1,4 +1,3 @@
--- `chip::Chip::control_read` meets its contract: each return by the facts on its way. Assumes nothing.
 use Rattle.chip.proofs.Branch.{tests}
 use Rattle.chip.specs.Chip.{controlReadCall}
 use borrow.Author.Needs.{needs}
@@ -16,7 +15,7 @@ in-a-requires c κs = search needs
 
 returns : tie.Need-returns
 unfolding controlReadCall
-returns c = simp (tests, c .in-a .ensures, c .before .before .before .before .if1 .taken, c .before .control-read .ensures, c .before .before .any-pending .ensures)
+returns c = simp (tests, c .in-a .ensures, c .before .before .before .if1 .taken, c .before .control-read .ensures, c .before .before .any-pending .ensures)
 
 rr2-requires : tie.Need-rr2-requires
 rr2-requires c κs = search needs
@@ -29,7 +28,7 @@ in-b-requires c κs = search needs
 
 returns-2 : tie.Need-returns-2
 unfolding controlReadCall
-returns-2 c = simp (tests, c .in-b .ensures, c .before .before .before .before .if2 .taken, c .before .before .before .before .before .if1 .left, c .before .control-read2 .ensures, c .before .before .rr2 .ensures)
+returns-2 c = simp (tests, c .in-b .ensures, c .before .before .before .if2 .taken, c .before .before .before .before .if1 .left, c .before .control-read2 .ensures, c .before .before .rr2 .ensures)
 
 refused-requires : tie.Need-refused-requires
 refused-requires c κs = search needs

@@ -1,35 +1,28 @@
--- `chip::Chip::data_read` meets its contract: each return by the facts on its way. Assumes nothing.
 use Rattle.chip.proofs.Branch.{tests}
 use Rattle.chip.specs.Chip.{dataReadCall}
 use borrow.Author.Needs.{needs}
 use Rattle.chip.proofs.Chip.data_read.Statement.{statement}
 use Rattle.chip.proofs.Chip.data_read.Tie as tie
 
-data-read-requires : tie.Need-data-read-requires
-data-read-requires c κs = search needs
+data-read-in-requires : tie.Need-data-read-in-requires
+data-read-in-requires c κs = search needs
 
-taken-value-requires : tie.Need-taken-value-requires
-taken-value-requires c κs = search needs
-
-with-a-requires : tie.Need-with-a-requires
-with-a-requires c κs = search needs
+in-a-requires : tie.Need-in-a-requires
+in-a-requires c κs = search needs
 
 returns : tie.Need-returns
 unfolding dataReadCall
-returns c = simp (tests, c .with-a .ensures, c .before .before .before .before .before .if1 .taken, ← c .before .taken-value .ensures, ← c .before .before .before .data-read .ensures)
+returns c = simp (tests, c .in-a .ensures, c .before .before .if1 .taken, c .before .data-read-in .ensures)
 
-data-read-requires-2 : tie.Need-data-read-requires-2
-data-read-requires-2 c κs = search needs
+data-read-in-requires-2 : tie.Need-data-read-in-requires-2
+data-read-in-requires-2 c κs = search needs
 
-taken-value-requires-2 : tie.Need-taken-value-requires-2
-taken-value-requires-2 c κs = search needs
-
-with-b-requires : tie.Need-with-b-requires
-with-b-requires c κs = search needs
+in-b-requires : tie.Need-in-b-requires
+in-b-requires c κs = search needs
 
 returns-2 : tie.Need-returns-2
 unfolding dataReadCall
-returns-2 c = simp (tests, c .with-b .ensures, c .before .before .before .before .before .if2 .taken, c .before .before .before .before .before .before .if1 .left, ← c .before .taken-value2 .ensures, ← c .before .before .before .data-read2 .ensures)
+returns-2 c = simp (tests, c .in-b .ensures, c .before .before .if2 .taken, c .before .before .before .if1 .left, c .before .data-read-in2 .ensures)
 
 refused-requires : tie.Need-refused-requires
 refused-requires c κs = search needs
@@ -42,13 +35,11 @@ pub data-read-spec : {M : Type 1} → statement M
 data-read-spec =
     tie.close
     (tie.spec
-    data-read-requires
-    taken-value-requires
-    with-a-requires
+    data-read-in-requires
+    in-a-requires
     returns
-    data-read-requires-2
-    taken-value-requires-2
-    with-b-requires
+    data-read-in-requires-2
+    in-b-requires
     returns-2
     refused-requires
     returns-3)

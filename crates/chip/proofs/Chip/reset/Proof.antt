@@ -1,4 +1,3 @@
--- `chip::Chip::reset` meets its contract: each return by the facts on its way. Assumes nothing.
 use Rattle.chip.proofs.Branch.{tests}
 use borrow.Author.Needs.{needs}
 use Rattle.chip.proofs.Chip.reset.Statement.{statement}

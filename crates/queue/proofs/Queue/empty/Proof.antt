@@ -1,10 +1,8 @@
+-- `queue::Queue::empty` meets its contract: each return by the facts on its way. Assumes nothing.
 use Rattle.queue.proofs.Branch.{tests}
 use borrow.Author.Needs.{needs}
 use Rattle.queue.proofs.Queue.empty.Statement.{statement}
 use Rattle.queue.proofs.Queue.empty.Tie as tie
-use Rattle.queue.proofs.Queue.empty.Reads as reads
-use Rattle.queue.proofs.Queue.empty.Lts as lts
-use Rattle.queue.proofs.Entry.none.Reads as none-reads
 
 none-requires : tie.Need-none-requires
 none-requires c κs = search needs

@@ -1,54 +1,42 @@
+-- `queue::Queue::take` meets its contract: each return by the facts on its way. Assumes nothing.
 use Rattle.queue.proofs.Branch.{tests}
 use Rattle.queue.specs.Queue.{taken}
 use borrow.Author.Needs.{needs}
 use Rattle.queue.proofs.Queue.take.Statement.{statement}
 use Rattle.queue.proofs.Queue.take.Tie as tie
-use Rattle.queue.proofs.Queue.take.Reads as reads
-use Rattle.queue.proofs.Queue.take.Lts as lts
-use Rattle.queue.proofs.Entry.none.Reads as none-reads
-use Rattle.queue.proofs.Queue.keeping.Reads as keeping-reads
-use Rattle.queue.proofs.Queue.latching.Reads as latching-reads
 
 returns : tie.Need-returns
 unfolding taken
 returns c = simp (tests, c .if1 .taken)
 
-array-copy-out-a : tie.Need-array-copy-out-a
-array-copy-out-a c = search needs
+element-copy-out-a : tie.Need-element-copy-out-a
+element-copy-out-a c = search needs
 
-array-copy-out-b : tie.Need-array-copy-out-b
-array-copy-out-b c = search needs
+element-copy-out-t9 : tie.Need-element-copy-out-t9
+element-copy-out-t9 c = search needs
 
 none-requires : tie.Need-none-requires
 none-requires c κs = search needs
 
-keeping-requires : tie.Need-keeping-requires
-keeping-requires c κs = search needs
-
 returns-2 : tie.Need-returns-2
 unfolding taken
-returns-2 c = simp (tests, c .keeping .ensures, c .before .if2 .taken, c .before .before .before .before .before .if1 .left, ← c .before .before .none .ensures)
+returns-2 c = simp (tests, c .if2 .taken, c .before .before .before .before .if1 .left, ← c .before .none .ensures)
 
-sub-latching : tie.Need-sub-latching
-sub-latching c = search needs
-
-latching-requires : tie.Need-latching-requires
-latching-requires c κs = search needs
+sub-t15 : tie.Need-sub-t15
+sub-t15 c = search needs
 
 returns-3 : tie.Need-returns-3
 unfolding taken
-returns-3 c = simp (tests, c .latching .ensures, c .before .if2 .left, c .before .before .before .before .before .if1 .left, ← c .before .before .none .ensures)
+returns-3 c = simp (tests, c .before .before .if2 .left, c .before .before .before .before .before .before .if1 .left, ← c .before .before .before .none .ensures)
 
 pub take-spec : {M : Type 1} → statement M
 take-spec =
     tie.close
     (tie.spec
     returns
-    array-copy-out-a
-    array-copy-out-b
+    element-copy-out-a
+    element-copy-out-t9
     none-requires
-    keeping-requires
     returns-2
-    sub-latching
-    latching-requires
+    sub-t15
     returns-3)

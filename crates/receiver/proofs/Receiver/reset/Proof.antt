@@ -1,20 +1,17 @@
+-- `receiver::Receiver::reset` meets its contract: each return by the facts on its way. Assumes nothing.
 use Rattle.receiver.proofs.Branch.{tests}
 use borrow.Author.Needs.{needs}
 use Rattle.receiver.proofs.Receiver.reset.Statement.{statement}
 use Rattle.receiver.proofs.Receiver.reset.Tie as tie
-use Rattle.receiver.proofs.Receiver.reset.Reads as reads
-use Rattle.receiver.proofs.Receiver.reset.Lts as lts
-use Rattle.receiver.proofs.Assembly.none.Reads as Assembly-none-reads
-use Rattle.receiver.proofs.Chars.none.Reads as Chars-none-reads
+
+at-requires : tie.Need-at-requires
+at-requires c κs = search needs
 
 none-requires : tie.Need-none-requires
 none-requires c κs = search needs
 
-none-requires-2 : tie.Need-none-requires-2
-none-requires-2 c κs = search needs
-
 returns : tie.Need-returns
-returns c = simp (tests, c .none2 .ensures, ← c .before .none .ensures)
+returns c = simp (tests, c .none .ensures, ← c .before .at .ensures)
 
 pub reset-spec : {M : Type 1} → statement M
-reset-spec = tie.close (tie.spec none-requires none-requires-2 returns)
+reset-spec = tie.close (tie.spec at-requires none-requires returns)

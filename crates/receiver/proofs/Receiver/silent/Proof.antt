@@ -1,10 +1,8 @@
+-- `receiver::Receiver::silent` meets its contract: each return by the facts on its way. Assumes nothing.
 use Rattle.receiver.proofs.Branch.{tests}
 use borrow.Author.Needs.{needs}
 use Rattle.receiver.proofs.Receiver.silent.Statement.{statement}
 use Rattle.receiver.proofs.Receiver.silent.Tie as tie
-use Rattle.receiver.proofs.Receiver.silent.Reads as reads
-use Rattle.receiver.proofs.Receiver.silent.Lts as lts
-use Rattle.queue.proofs.Entry.none.Reads as none-reads
 
 none-requires : tie.Need-none-requires
 none-requires c κs = search needs

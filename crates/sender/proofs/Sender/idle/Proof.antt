@@ -4,11 +4,14 @@ use borrow.Author.Needs.{needs}
 use Rattle.sender.proofs.Sender.idle.Statement.{statement}
 use Rattle.sender.proofs.Sender.idle.Tie as tie
 
-uncounted-requires : tie.Need-uncounted-requires
-uncounted-requires c κs = search needs
+not-counted-requires : tie.Need-not-counted-requires
+not-counted-requires c κs = search needs
+
+none-requires : tie.Need-none-requires
+none-requires c κs = search needs
 
 returns : tie.Need-returns
-returns c = simp (tests, c .uncounted .ensures)
+returns c = simp (tests, c .none .ensures, ← c .before .not-counted .ensures)
 
 pub idle-spec : {M : Type 1} → statement M
-idle-spec = tie.close (tie.spec uncounted-requires returns)
+idle-spec = tie.close (tie.spec not-counted-requires none-requires returns)

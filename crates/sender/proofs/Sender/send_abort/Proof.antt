@@ -1,5 +1,7 @@
 -- `sender::Sender::send_abort` meets its contract: each return by the facts on its way. Assumes nothing.
-use Rattle.sender.proofs.Branch.{tests}
+use mathlib.Core.Path.{ap, _∙_}
+use Rattle.sdlc.specs.Sending.{abortedBy}
+use Rattle.sender.specs.Sender.{framerIn}
 use borrow.Author.Needs.{needs}
 use Rattle.sender.proofs.Sender.send_abort.Statement.{statement}
 use Rattle.sender.proofs.Sender.send_abort.Tie as tie
@@ -7,18 +9,32 @@ use Rattle.sender.proofs.Sender.send_abort.Tie as tie
 in-sdlc-requires : tie.Need-in-sdlc-requires
 in-sdlc-requires c κs = search needs
 
-aborting-requires : tie.Need-aborting-requires
-aborting-requires c κs = search needs
+framer-requires : tie.Need-framer-requires
+framer-requires c κs = search needs
 
-cut-short-requires : tie.Need-cut-short-requires
-cut-short-requires c κs = search needs
+send-abort-requires : tie.Need-send-abort-requires
+send-abort-requires c κs = search needs
+
+with-framer-requires : tie.Need-with-framer-requires
+with-framer-requires c κs = search needs
 
 returns : tie.Need-returns
-returns c = simp (tests, c .before .if1 .taken, ← c .before .before .aborting .ensures, ← c .before .before .before .before .in-sdlc .ensures) (c .cut-short .ensures)
+returns c =
+    let a = c .before .before .before .before .before .args in
+    let cut = c .before .send-abort .ensures ∙ ap (abortedBy (a .g .framing)) (c .before .before .framer .ensures) in
+    rw (← c .before .before .before .before .in-sdlc .ensures, c .before .before .before .if1 .taken)
+    (c .with-framer .ensures ∙ ap (framerIn (a .self)) cut)
 
 returns-2 : tie.Need-returns-2
-returns-2 c = simp (tests, c .if1 .left, ← c .before .aborting .ensures, ← c .before .before .before .in-sdlc .ensures)
+returns-2 c = search needs
 
 pub send-abort-spec : {M : Type 1} → statement M
 send-abort-spec =
-    tie.close (tie.spec in-sdlc-requires aborting-requires cut-short-requires returns returns-2)
+    tie.close
+    (tie.spec
+    in-sdlc-requires
+    framer-requires
+    send-abort-requires
+    with-framer-requires
+    returns
+    returns-2)

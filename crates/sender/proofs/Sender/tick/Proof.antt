@@ -11,8 +11,11 @@ enum-told c = search needs
 enum-told-2 : tie.Need-enum-told-2
 enum-told-2 c = search needs
 
-tick-asynchronous-requires : tie.Need-tick-asynchronous-requires
-tick-asynchronous-requires c κs = search needs
+tick-requires : tie.Need-tick-requires
+tick-requires c κs = search needs
+
+by-typist-requires : tie.Need-by-typist-requires
+by-typist-requires c κs = search needs
 
 with-break-requires : tie.Need-with-break-requires
 with-break-requires c κs = search needs
@@ -20,8 +23,14 @@ with-break-requires c κs = search needs
 enum-told-3 : tie.Need-enum-told-3
 enum-told-3 c = search needs
 
-tick-sdlc-requires : tie.Need-tick-sdlc-requires
-tick-sdlc-requires c κs = search needs
+framer-requires : tie.Need-framer-requires
+framer-requires c κs = search needs
+
+tick-requires-2 : tie.Need-tick-requires-2
+tick-requires-2 c κs = search needs
+
+by-framer-requires : tie.Need-by-framer-requires
+by-framer-requires c κs = search needs
 
 with-break-requires-2 : tie.Need-with-break-requires-2
 with-break-requires-2 c κs = search needs
@@ -32,11 +41,11 @@ returns c = simp (tests, c .enum-told .given .1)
 
 returns-2 : tie.Need-returns-2
 unfolding tick
-returns-2 c = simp (tests, c .before .before .enum-told2 .given .1, ← c .before .tick-asynchronous .ensures) (c .with-break .ensures)
+returns-2 c = simp (tests, c .before .before .before .enum-told2 .given .1, ← c .before .by-typist .ensures, ← c .before .before .tick .ensures) (c .with-break .ensures)
 
 returns-3 : tie.Need-returns-3
 unfolding tick
-returns-3 c = simp (tests, c .before .before .enum-told3 .given .1, ← c .before .tick-sdlc .ensures) (c .with-break2 .ensures)
+returns-3 c = simp (tests, c .before .before .before .before .enum-told3 .given .1, ← c .before .by-framer .ensures, ← c .before .before .tick2 .ensures, ← c .before .before .before .framer .ensures) (c .with-break2 .ensures)
 
 pub tick-spec : {M : Type 1} → statement M
 tick-spec =
@@ -44,10 +53,13 @@ tick-spec =
     (tie.spec
     enum-told
     enum-told-2
-    tick-asynchronous-requires
+    tick-requires
+    by-typist-requires
     with-break-requires
     enum-told-3
-    tick-sdlc-requires
+    framer-requires
+    tick-requires-2
+    by-framer-requires
     with-break-requires-2
     returns
     returns-2

@@ -11,13 +11,13 @@ mode-of-requires c κs = search needs
 auto-enables-requires : tie.Need-auto-enables-requires
 auto-enables-requires c κs = search needs
 
-length-of-requires : tie.Need-length-of-requires
-length-of-requires c κs = search needs
+format-requires : tie.Need-format-requires
+format-requires c κs = search needs
 
 returns : tie.Need-returns
 unfolding receivingOf
-returns c = simp (tests, c .length-of .ensures, ← c .before .before .auto-enables .ensures, ← c .before .before .before .mode-of .ensures)
+returns c = simp (tests, c .format .ensures, ← c .before .before .before .before .auto-enables .ensures, ← c .before .before .before .before .before .before .mode-of .ensures)
 
 pub receiving-spec : {M : Type 1} → statement M
 receiving-spec =
-    tie.close (tie.spec mode-of-requires auto-enables-requires length-of-requires returns)
+    tie.close (tie.spec mode-of-requires auto-enables-requires format-requires returns)

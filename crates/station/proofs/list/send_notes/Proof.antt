@@ -1,159 +1,217 @@
--- `station::send_notes` meets its contract: what has been sent and told so far, walked over the rest of the list, is always the whole report. Assumes nothing.
+-- `station::send_notes` meets its contract: what has been sent and told so far, walked over the rest of the
+-- list, is always the whole report. Assumes nothing.
 use mathlib.Core.Path.{_≡_, refl, sym, ap, _∙_}
+use mathlib.Core.Bool.{Bool}
+use mathlib.Core.List.{List}
 use Prim.Native.Nat.{ℕ, _+_, _-_, _*_, _/_, _≤_}
-use lib.Dec.{leb}
 use native.Mathlib.Omega.{arith}
-use native.Mathlib.Nat.{add-sub-cancel-left}
-use lib.ListN.{length, take, drop}
+use lib.ListN.{length}
 use denote.Ref.{now}
 use Rattle.line.specs.Frame.{zerosOf, ticksOf}
-use Rattle.line.specs.Laws.Frame.{ticks-are}
-use Rattle.notes.specs.NoteList.{restFrom, readList, scanned, walk, firstNote, textAt}
-use Rattle.notes.specs.declared.Scanned.the-variants.{Notes, Refused}
-use mathlib.Core.List.{List}
-use mathlib.Core.Bool.{true}
 use Rattle.line.specs.Line.{noteFits}
-use Rattle.notes.specs.Laws.Reading.{oneMore, walk-end, walk-note, walk-bad, scanned-walk, scanned-rest, scanned-size, textAt-length}
-use Rattle.station.specs.Drive.{sentBy}
-use Rattle.station.specs.Report.{rowOf, withTicks, listSent}
-use Rattle.station.specs.Laws.Parts.{fits-bounds, ticks-few}
-use Rattle.station.specs.Laws.Report.{Walked, walked, oneSent, Ended, finish, refused, sent-walk, room-for, toldRow-length, one-sent, withTicks-least, apart, counted-least}
+use Rattle.notes.specs.declared.Scanned.the-variants.{Notes}
+use Rattle.notes.specs.NoteList.{restFrom, readList, scanned, walk}
+use Rattle.head.specs.NoteHead.{noteAt}
+use Rattle.notes.specs.Laws.Reading.{scanned-rest, scanned-size}
+use Rattle.drive.specs.Drive.{sentBy}
+use Rattle.report.specs.Report.{rowOf, hasRoom, reportOf, rowsIn}
+use Rattle.report.specs.Laws.Notes.{next-note, walk-next, walk-last}
+use Rattle.report.specs.Laws.Ticks.{fits-bounds, ticks-few}
+use Rattle.station.specs.declared.Listed.the-variants as listed
+use Rattle.station.specs.Station.{listSent, listedOf, chipAfter}
+use Rattle.station.specs.Laws.Walk.{Walked, walked, oneSent, WalkedList, walkedList, allSent, noneSent}
+use Rattle.station.specs.Laws.Walk.{sent-walk, room-for, toldAt-length, one-sent}
 use borrow.Author.Needs.{needs}
 use Rattle.station.proofs.list.send_notes.Statement.{statement}
 use Rattle.station.proofs.list.send_notes.Tie as tie
 
 abbrev Inv-loop : tie.InvT-loop
-Inv-loop c list rows₀ n told d₀ i₀ notes₀ ticks₀ rows d i notes ticks =
-    (walk (oneSent told) finish (refused c rows₀) (walked d notes ticks rows) (restFrom list i) ≡ walk (oneSent told) finish (refused c rows₀) (walked c 0 0 rows₀) (readList list))
-    × (walk oneMore Notes Refused notes (restFrom list i) ≡ Notes n)
-    × (length rows ≡ length rows₀) × (3 * notes + 1 ≤ i) × (i ≤ length list + 1) × (ticks ≤ 19696 * notes)
+Inv-loop list rows₀ n told d₀ i₀ notes₀ sum₀ rows d i notes sum =
+    (walk (oneSent told) allSent (noneSent d₀ rows₀) (walked d notes sum rows) (restFrom list i)
+    ≡ walkedList (listedOf (reportOf list)) (chipAfter d₀ (readList list)) (rowsIn rows₀ (reportOf list)))
+    × ((scanned (restFrom list i) ≡ Notes (n - notes)) × ((length rows ≡ length rows₀)
+    × ((notes ≤ n) × ((3 * notes + 1 ≤ i) × ((i ≤ length list + 1) × (sum ≤ 19696 * notes))))))
 
 abbrev μ-loop : tie.MeasureT-loop
-μ-loop c list rows₀ n told d₀ i₀ notes₀ ticks₀ rows d i notes ticks = length list + 1 - i
+μ-loop list rows₀ n told d₀ i₀ notes₀ sum₀ rows d i notes sum = n - notes
 
 loop-holds : tie.Need-loop-holds Inv-loop μ-loop
 loop-holds c =
     let s = c .before .before in
+    let n = s .args .n in
     let list = now (s .args .list) in
-    let e = scanned-rest list (s .args .n) (s .pre) in
-    let told = leb (s .args .n) (length (now (s .args .rows)) / 4) in
-    let start = walk (oneSent told) finish (refused (s .args .c) (now (s .args .rows))) (walked (s .args .c) 0 0 (now (s .args .rows))) in
-    (ap start (sym e), sym (scanned-walk (restFrom list firstNote)) ∙ ap scanned (sym e) ∙ s .pre, refl, omega arith, omega arith, omega arith)
+    let rows = now (s .args .rows) in
+    let e = sym (scanned-rest list n (s .pre)) in
+    let none : n ≡ n - 0 = omega arith in (
+      ap (walk (oneSent (hasRoom n rows)) allSent (noneSent (s .args .c) rows) (walked (s .args .c) 0 0 rows)) e
+          ∙ sent-walk (s .args .c) rows n (readList list) (s .pre),
+      (ap scanned e ∙ s .pre ∙ ap Notes none, (refl, (omega arith, (omega arith, (omega arith, omega arith))))),
+    )
 
-head-at-requires : tie.Need-head-at-requires Inv-loop μ-loop
-head-at-requires c κs = search needs
+note-at-requires : tie.Need-note-at-requires Inv-loop μ-loop
+note-at-requires c κs = search needs
 
-enum-told : tie.Need-enum-told Inv-loop μ-loop
-enum-told c = search needs
+send-fitting-requires : tie.Need-send-fitting-requires Inv-loop μ-loop
+send-fitting-requires c κs =
+    let s = c .before .before .before .before .before in
+    let l = c .before .before .loop in
+    let list = now (s .args .list) in
+    let more = c .before .loop-test .taken in
+    let x = next-note list (l .i) (s .args .n - l .notes) (omega (arith, more)) (l .inv .1 .0) in
+    let size = scanned-size list (s .args .n) (s .pre) in
+    ap (λ (t : List ℕ). noteFits (length t)) (c .note-at .ensures) ∙ x .fits
 
-same-length : tie.Need-same-length Inv-loop μ-loop
-same-length c = c .before .before .before .loop .inv .2
-
-returns : tie.Need-returns Inv-loop μ-loop
-returns c =
+add-m : tie.Need-add-m Inv-loop μ-loop
+add-m c =
     let s = c .before .before .before .before .before .before in
     let l = c .before .before .before .loop in
     let list = now (s .args .list) in
-    let rows = now (s .args .rows) in
-    let e = sym (c .before .before .head-at .ensures .0) ∙ c .enum-told .given .1 in
-    let told = leb (s .args .n) (length rows / 4) in
-    let x =
-    sym (walk-end (oneSent told) finish (refused (s .args .c) rows) (walked (l .d) (l .notes) (l .ticks) (l .rows)) list (l .i) e) ∙ l .inv .0
-    ∙ sent-walk (s .args .c) rows (s .args .n) (readList list) (s .pre) in
-    (ap (λ (y : Ended). listSent (y .answer) (y .chip)) x, ap (λ (y : Ended). y .rows) x)
-
-enum-known-h : tie.Need-enum-known-h Inv-loop μ-loop
-enum-known-h c = search needs
-
-add-a : tie.Need-add-a Inv-loop μ-loop
-add-a c = let w = rw (c .before .h .given .1) at (c .before .before .before .head-at .ensures .1) in omega arith
-
-add-e : tie.Need-add-e Inv-loop μ-loop
-add-e c = let w = rw (c .before .h .given .1) at (c .before .before .before .head-at .ensures .1) in omega arith
-
-sub-send-fitting : tie.Need-sub-send-fitting Inv-loop μ-loop
-sub-send-fitting c = let w = rw (c .before .h .given .1) at (c .before .before .before .head-at .ensures .1) in omega arith
-
-part-send-fitting-start : tie.Need-part-send-fitting-start Inv-loop μ-loop
-part-send-fitting-start c = let w = rw (c .before .h .given .1) at (c .before .before .before .head-at .ensures .1) in omega arith
-
-part-send-fitting-end : tie.Need-part-send-fitting-end Inv-loop μ-loop
-part-send-fitting-end c = let w = rw (c .before .h .given .1) at (c .before .before .before .head-at .ensures .1) in omega arith
-
-send-fitting-requires : tie.Need-send-fitting-requires Inv-loop μ-loop
-send-fitting-requires c κs = let w = rw (c .before .before .h .given .1) at (c .before .before .before .before .head-at .ensures .1) in simp add-sub-cancel-left (rw (textAt-length _ (c .before .before .before .before .before .loop .i) _ (w .1)) (w .0))
-
-add-m : tie.Need-add-m Inv-loop μ-loop
-add-m c = let s = c .before .before .before .before .before .before .before .before .before in let l = c .before .before .before .before .before .before .loop in omega (arith, l .inv .3, l .inv .4, scanned-size (now (s .args .list)) (s .args .n) (s .pre))
+    let more = c .before .before .loop-test .taken in
+    let x = next-note list (l .i) (s .args .n - l .notes) (omega (arith, more)) (l .inv .1 .0) in
+    let size = scanned-size list (s .args .n) (s .pre) in
+    omega (arith, l .inv .1 .1 .1 .1 .0, l .inv .1 .1 .1 .1 .1 .0, size)
 
 mul-put-row : tie.Need-mul-put-row Inv-loop μ-loop
-mul-put-row c = let s = c .before .before .before .before .before .before .before .before .before .before in let l = c .before .before .before .before .before .before .before .loop in omega (arith, l .inv .3, l .inv .4, scanned-size (now (s .args .list)) (s .args .n) (s .pre))
+mul-put-row c =
+    let s = c .before .before .before .before .before .before .before in
+    let l = c .before .before .before .before .loop in
+    let list = now (s .args .list) in
+    let more = c .before .before .before .loop-test .taken in
+    let x = next-note list (l .i) (s .args .n - l .notes) (omega (arith, more)) (l .inv .1 .0) in
+    let size = scanned-size list (s .args .n) (s .pre) in
+    omega (arith, l .inv .1 .1 .1 .1 .0, l .inv .1 .1 .1 .1 .1 .0, size)
 
 put-row-requires : tie.Need-put-row-requires Inv-loop μ-loop
 put-row-requires c κs =
-    let s = c .before .before .before .before .before .before .before .before .before .before in
-    let l = c .before .before .before .before .before .before .before .loop in
+    let s = c .before .before .before .before .before .before .before in
+    let l = c .before .before .before .before .loop in
     let list = now (s .args .list) in
-    let e = sym (c .before .before .before .before .before .before .head-at .ensures .0) ∙ c .before .before .before .before .h .given .1 in
-    let more = counted-least (l .notes + 1) (s .args .n) (restFrom list (l .i + 2 + c .before .before .before .before .h .given .0 .0)) (sym (walk-note oneMore Notes Refused (l .notes) list (l .i) _ e) ∙ l .inv .1) in
-    (room-for (s .args .n) (l .notes) (now (s .args .rows)) (l .rows) more (l .inv .2), omega (arith, l .inv .3, l .inv .4, scanned-size list (s .args .n) (s .pre)))
+    let more = c .before .before .before .loop-test .taken in
+    let x = next-note list (l .i) (s .args .n - l .notes) (omega (arith, more)) (l .inv .1 .0) in
+    let size = scanned-size list (s .args .n) (s .pre) in (
+      room-for (s .args .n) (l .notes) (now (s .args .rows)) (l .rows) (omega (arith, more)) (l .inv .1 .1 .0),
+      omega (arith, l .inv .1 .1 .1 .1 .0, l .inv .1 .1 .1 .1 .1 .0, size),
+    )
 
-with-ticks-requires : tie.Need-with-ticks-requires Inv-loop μ-loop
-with-ticks-requires c κs =
-    let s = c .before .before .before .before .before .before .before .before .before .before .before .before .before in
-    let l = c .before .before .before .before .before .before .before .before .before .before .loop in
-    let w = rw (c .before .before .before .before .before .before .before .h .given .1) at (c .before .before .before .before .before .before .before .before .before .head-at .ensures .1) in
+add-sum : tie.Need-add-sum Inv-loop μ-loop
+add-sum c =
+    let s = c .before .before .before .before .before .before .before .before .before .before .before in
+    let l = c .before .before .before .before .before .before .before .before .loop in
     let list = now (s .args .list) in
-    let k = c .before .before .before .before .before .before .before .h .given .0 .0 in
-    let text = textAt list (l .i) k in
-    let size = textAt-length list (l .i) k (w .1) in
-    let fits : noteFits (length text) ≡ true = rw size (w .0) in
-    let part : take (l .i + 2 + k - (l .i + 2)) (drop (l .i + 2) list) ≡ text = rw add-sub-cancel-left in
-    let ticks = c .before .before .before .before .send-fitting .ensures .1 .0 ∙ ap (λ (x : List ℕ). ticksOf x) part in
-    (omega (arith, ticks, ticks-few text fits, l .inv .3, l .inv .4, l .inv .5, scanned-size list (s .args .n) (s .pre)), omega (arith, ticks, ticks-are text))
+    let more = c .before .before .before .before .before .before .before .loop-test .taken in
+    let x = next-note list (l .i) (s .args .n - l .notes) (omega (arith, more)) (l .inv .1 .0) in
+    let size = scanned-size list (s .args .n) (s .pre) in
+    let text = c .before .before .before .before .before .before .note-at .ensures in
+    let w = c .before .before .before .before .before .send-fitting in
+    let ticks = w .ensures .1 .0 ∙ ap (λ (t : List ℕ). ticksOf t) text in
+    let few = ticks-few (noteAt list (l .i)) (x .fits) in
+    omega (arith, ticks, few, l .inv .1 .1 .1 .1 .0, l .inv .1 .1 .1 .1 .1 .0, l .inv .1 .1 .1 .1 .1 .1, size)
+
+add-i : tie.Need-add-i Inv-loop μ-loop
+add-i c =
+    let s = c .before .before .before .before .before .before .before .before .before .before .before .before in
+    let l = c .before .before .before .before .before .before .before .before .before .loop in
+    let list = now (s .args .list) in
+    let more = c .before .before .before .before .before .before .before .before .loop-test .taken in
+    let x = next-note list (l .i) (s .args .n - l .notes) (omega (arith, more)) (l .inv .1 .0) in
+    let size = scanned-size list (s .args .n) (s .pre) in
+    omega (arith, l .inv .1 .1 .1 .1 .1 .0, size)
+
+add-i-2 : tie.Need-add-i-2 Inv-loop μ-loop
+add-i-2 c =
+    let s = c .before .before .before .before .before .before .before .before .before .before .before .before in
+    let l = c .before .before .before .before .before .before .before .before .before .loop in
+    let list = now (s .args .list) in
+    let more = c .before .before .before .before .before .before .before .before .loop-test .taken in
+    let x = next-note list (l .i) (s .args .n - l .notes) (omega (arith, more)) (l .inv .1 .0) in
+    let size = scanned-size list (s .args .n) (s .pre) in
+    omega (arith, x .inside, ap length (c .before .before .before .before .before .before .before .note-at .ensures), size)
 
 loop-less : tie.Need-loop-less Inv-loop μ-loop
-loop-less c = let w = rw (c .before .before .before .before .before .before .before .before .before .h .given .1) at (c .before .before .before .before .before .before .before .before .before .before .before .head-at .ensures .1) in omega arith
+loop-less c = omega (arith, c .before .before .before .before .before .before .before .before .loop-test .taken)
 
 loop-again : tie.Need-loop-again Inv-loop μ-loop
 loop-again c =
-    let s = c .before .before .before .before .before .before .before .before .before .before .before .before .before .before .before in
-    let l = c .before .before .before .before .before .before .before .before .before .before .before .before .loop in
-    let w = rw (c .before .before .before .before .before .before .before .before .before .h .given .1) at (c .before .before .before .before .before .before .before .before .before .before .before .head-at .ensures .1) in
+    let s = c .before .before .before .before .before .before .before .before .before .before .before .before in
+    let l = c .before .before .before .before .before .before .before .before .before .loop in
     let list = now (s .args .list) in
-    let k = c .before .before .before .before .before .before .before .before .before .h .given .0 .0 in
-    let text = textAt list (l .i) k in
-    let size = textAt-length list (l .i) k (w .1) in
-    let fits : noteFits (length text) ≡ true = rw size (w .0) in
-    let part : take (l .i + 2 + k - (l .i + 2)) (drop (l .i + 2) list) ≡ text = rw add-sub-cancel-left in
-    let ticks = c .before .before .before .before .before .before .send-fitting .ensures .1 .0 ∙ ap (λ (x : List ℕ). ticksOf x) part in
-    let e = sym (c .before .before .before .before .before .before .before .before .before .before .before .head-at .ensures .0) ∙ c .before .before .before .before .before .before .before .before .before .h .given .1 in
-    let told = leb (s .args .n) (length (now (s .args .rows)) / 4) in
+    let more = c .before .before .before .before .before .before .before .before .loop-test .taken in
+    let x = next-note list (l .i) (s .args .n - l .notes) (omega (arith, more)) (l .inv .1 .0) in
+    let size = scanned-size list (s .args .n) (s .pre) in
+    let text = c .before .before .before .before .before .before .before .note-at .ensures in
+    let w = c .before .before .before .before .before .before .send-fitting in
+    let ticks = w .ensures .1 .0 ∙ ap (λ (t : List ℕ). ticksOf t) text in
+    let few = ticks-few (noteAt list (l .i)) (x .fits) in
+    let rows = now (s .args .rows) in
+    let told = hasRoom (s .args .n) rows in
+    let i = l .i in
+    let note = noteAt list i in
+    let was = walked (l .d) (l .notes) (l .sum) (l .rows) in
     let one =
-    one-sent told (walked (l .d) (l .notes) (l .ticks) (l .rows)) text size (c .before .before .before .before .before .before .send-fitting .ensures .0 ∙ ap (λ (x : List ℕ). zerosOf x) part) ticks
-    (c .before .before .before .before .before .before .send-fitting .ensures .1 .1 ∙ ap (λ (x : List ℕ). sentBy (l .d) x) part) (c .before .with-ticks .ensures) (c .before .before .before .before .put-row .ensures) in
-    let sum = c .before .with-ticks .ensures ∙ ap (λ (x : ℕ). withTicks (l .ticks) x) ticks in (
-      ap (λ (y : Walked). walk (oneSent told) finish (refused (s .args .c) (now (s .args .rows))) y (restFrom list (l .i + 2 + k))) one
-          ∙ sym (walk-note (oneSent told) finish (refused (s .args .c) (now (s .args .rows))) (walked (l .d) (l .notes) (l .ticks) (l .rows)) list (l .i) k e) ∙ l .inv .0,
-      sym (walk-note oneMore Notes Refused (l .notes) list (l .i) k e) ∙ l .inv .1,
-      ap (λ (y : Walked). length (y .rows)) one ∙ toldRow-length told (l .rows) (4 * l .notes) (rowOf (l .notes + 1) text) ∙ l .inv .2,
-      omega (arith, l .inv .3, fits-bounds k (w .0) .0),
-      omega (arith, w .1),
-      omega (arith, sum, withTicks-least (l .ticks) (ticksOf text), ticks-few text fits, l .inv .5),
+    one-sent told was note (ap length text) (w .ensures .0 ∙ ap (λ (t : List ℕ). zerosOf t) text) ticks
+    (w .ensures .1 .1 ∙ ap (λ (t : List ℕ). sentBy (l .d) t) text) (c .before .before .before .before .put-row .ensures) in
+    let at = ap (λ (t : List ℕ). i + 2 + length t) text in
+    let finish = walk (oneSent told) allSent (noneSent (s .args .c) rows) in
+    let less : s .args .n - l .notes - 1 ≡ s .args .n - (l .notes + 1) = omega arith in (
+      ap (λ (y : Walked). finish y (restFrom list (i + 2 + length (now (c .before .before .before .before .before .before .before .note-at .result))))) one
+          ∙ ap (λ (k : ℕ). finish (oneSent told was note) (restFrom list k)) at
+          ∙ sym (walk-next (oneSent told) allSent (noneSent (s .args .c) rows) was list i (s .args .n - l .notes - 1) x)
+          ∙ l .inv .0,
+      (
+        ap (λ (k : ℕ). scanned (restFrom list k)) at ∙ x .rest ∙ ap Notes less,
+        (
+          ap (λ (y : Walked). length (y .rows)) one
+              ∙ toldAt-length told (l .rows) (4 * l .notes) (rowOf (l .notes + 1) note) ∙ l .inv .1 .1 .0,
+          (
+            omega (arith, more),
+            (
+              omega (arith, l .inv .1 .1 .1 .1 .0, fits-bounds (length note) (x .fits) .0, at),
+              (omega (arith, x .inside, at), omega (arith, ticks, few, l .inv .1 .1 .1 .1 .1 .1)),
+            ),
+          ),
+        ),
+      ),
     )
 
-enum-known-h-2 : tie.Need-enum-known-h-2 Inv-loop μ-loop
-enum-known-h-2 c = search needs
+in-all-requires : tie.Need-in-all-requires Inv-loop μ-loop
+in-all-requires c κs = search needs
 
-same-length-2 : tie.Need-same-length-2 Inv-loop μ-loop
-same-length-2 c = c .before .before .before .before .loop .inv .2
+same-length : tie.Need-same-length Inv-loop μ-loop
+same-length c = c .before .before .loop .inv .1 .1 .0
 
-returns-2 : tie.Need-returns-2 Inv-loop μ-loop
-returns-2 c =
-    let s = c .before .before .before .before .before .before .before in
-    let l = c .before .before .before .before .loop in
-    let e = sym (c .before .before .before .head-at .ensures .0) ∙ c .before .h2 .given .1 in
-    apart _ (s .args .n) (sym (walk-bad oneMore Notes Refused (l .notes) (now (s .args .list)) (l .i) _ e) ∙ l .inv .1)
+returns : tie.Need-returns Inv-loop μ-loop
+returns c =
+    let s = c .before .before .before .before .before in
+    let l = c .before .before .loop in
+    let list = now (s .args .list) in
+    let rows = now (s .args .rows) in
+    let none : s .args .n - l .notes ≤ 0 = omega (arith, c .before .loop-test .left) in
+    let was = walked (l .d) (l .notes) (l .sum) (l .rows) in
+    let e =
+    sym (walk-last (oneSent (hasRoom (s .args .n) rows)) allSent (noneSent (s .args .c) rows) was list (l .i) (s .args .n - l .notes) none (l .inv .1 .0))
+    ∙ l .inv .0 in (
+      ap (λ (k : ℕ). listSent (listed.All (l .notes) k) (l .d)) (c .in-all .ensures)
+          ∙ ap (λ (y : WalkedList). listSent (y .answer) (y .chip)) e,
+      ap (λ (y : WalkedList). y .rows) e,
+    )
 
 pub send-notes-spec : {M : Type 1} → statement M
-send-notes-spec = tie.close (tie.spec Inv-loop μ-loop loop-holds head-at-requires enum-told same-length returns enum-known-h add-a add-e sub-send-fitting part-send-fitting-start part-send-fitting-end send-fitting-requires add-m mul-put-row put-row-requires with-ticks-requires loop-less loop-again enum-known-h-2 same-length-2 returns-2)
+send-notes-spec =
+    tie.close
+    (tie.spec
+    Inv-loop
+    μ-loop
+    loop-holds
+    note-at-requires
+    send-fitting-requires
+    add-m
+    mul-put-row
+    put-row-requires
+    add-sum
+    add-i
+    add-i-2
+    loop-less
+    loop-again
+    in-all-requires
+    same-length
+    returns)

@@ -1,0 +1,146 @@
+// The calls that need no chip, or a chip of their own.
+use crate::CHECK;
+use crate::Item;
+use crate::LINE;
+use crate::SCAN;
+use crate::TRACE;
+use crate::ZEROS;
+use crate::input::put_all;
+use crate::part;
+use crate::two;
+use crate::wide;
+use chip::Chip;
+use notes::Scanned;
+use text::LONGEST;
+use zeros::Counted;
+ghost use mathlib.Core.Path.{_≡_};
+ghost use lib.ListN.{length};
+
+// What a page holds where nobody has written.
+const UNTOUCHED: u8 = 9;
+
+// Room for every line.
+const PAGE: usize = 20000;
+
+fn page() -> [u8; PAGE]
+    ensures { λ r. ⌜ 20000 ≡ length r ⌝ }
+{
+    [UNTOUCHED; PAGE]
+}
+
+// A text's check as it is sent, the first bit in x^15.
+fn check_of(text: &[u8]) -> u16 {
+    let mut r = line::ONES;
+    let mut i = 0;
+    while i < text.len() {
+        r = line::check_byte(line::SDLC, r, text[i]);
+        i = i + 1;
+    }
+    r ^ line::ONES
+}
+
+fn counted_is(c: Counted, t: Item) -> bool {
+    match c {
+        Counted::Zeros(z) => t.is(0, z),
+        Counted::Refused(k) => t.is(k.number(), 0),
+    }
+}
+
+fn scanned_is(s: Scanned, t: Item) -> bool {
+    match s {
+        Scanned::Notes(n) => t.is(0, n),
+        Scanned::Refused(k) => t.is(k.number(), 0),
+    }
+}
+
+// What a cell must hold: the bits stand at their place, and nothing before or behind them is touched.
+fn cell_of(bits: &[u8], place: usize, k: usize) -> u8 {
+    if k < place {
+        return UNTOUCHED;
+    }
+    let i = k - place;
+    if i < bits.len() {
+        return bits[i];
+    }
+    UNTOUCHED
+}
+
+fn page_is(page: &[u8], place: usize, bits: &[u8]) -> bool {
+    let mut k = 0;
+    while k < page.len() {
+        if page[k] != cell_of(bits, place, k) {
+            return false;
+        }
+        k = k + 1;
+    }
+    true
+}
+
+// The place that an item names: 255 is the greatest there is.
+fn place_of(z: u8) -> usize {
+    if z == 255 {
+        return 18446744073709551615;
+    }
+    wide(z)
+}
+
+// A line is written at place z of as many bytes as x and y say, all of them a part of the page.
+fn written_in(out: &mut [u8], t: Item, note: &[u8], bits: &[u8]) -> bool {
+    let room = two(t.x, t.y);
+    if out.len() < room {
+        return false;
+    }
+    let c = writer::write_line(note, &mut out[0..room], place_of(t.z));
+    counted_is(c, t) & page_is(out, place_of(t.z), bits)
+}
+
+fn written(t: Item, note: &[u8], bits: &[u8]) -> bool {
+    let mut out = page();
+    written_in(&mut out, t, note, bits)
+}
+
+// More lines than a run can have.
+const LINES: u16 = 20000;
+
+// A line is put.
+fn put_line(out: &mut [u8], at: usize, text: &[u8; LONGEST], size: usize) -> usize {
+    put_all(out, at, part(text, size))
+}
+
+// What the program trace prints for these events is this text.
+fn traced_in(out: &mut [u8], events: &[u8], wanted: &[u8]) -> bool {
+    let mut chip = Chip::reset();
+    let mut at = 0;
+    let mut place = 0;
+    let mut left = LINES;
+    while 0 < left {
+        let t = events::next(chip, events, at);
+        let l = t.line;
+        if l.size == 0 {
+            return page_is(out, 0, wanted);
+        }
+        let text = l.text;
+        place = put_line(out, place, &text, l.size);
+        chip = t.chip;
+        at = t.at;
+        left = left - 1;
+    }
+    false
+}
+
+fn traced(events: &[u8], wanted: &[u8]) -> bool {
+    let mut out = page();
+    traced_in(&mut out, events, wanted)
+}
+
+pub(crate) fn judged(t: Item, given: &[u8], wanted: &[u8]) -> bool {
+    let kind = t.kind;
+    match kind {
+        CHECK => t.is(0, check_of(given) as usize),
+        ZEROS => counted_is(zeros::zeros_of(given), t),
+        LINE => written(t, given, wanted),
+        SCAN => scanned_is(notes::scan(given), t),
+        TRACE => traced(given, wanted),
+        _ => false,
+    }
+}

@@ -1,0 +1,17 @@
+-- `asynchronous::Typing::idling` meets its contract: each return by the facts on its way. Assumes nothing.
+use Rattle.asynchronous.proofs.Branch.{tests}
+use borrow.Author.Needs.{needs}
+use Rattle.asynchronous.proofs.Typing.idling.Statement.{statement}
+use Rattle.asynchronous.proofs.Typing.idling.Tie as tie
+
+start-character-requires : tie.Need-start-character-requires
+start-character-requires c κs = search needs
+
+returns : tie.Need-returns
+returns c = simp (tests, c .before .if1 .taken) (c .start-character .ensures)
+
+returns-2 : tie.Need-returns-2
+returns-2 c = simp (tests, c .if1 .left)
+
+pub idling-spec : {M : Type 1} → statement M
+idling-spec = tie.close (tie.spec start-character-requires returns returns-2)

@@ -1,0 +1,4 @@
+pub mod Sending
+pub mod Hearing
+pub mod Sound
+pub mod Laws

@@ -1,0 +1,13 @@
+use Rattle.channel.proofs.Branch.{tests}
+use borrow.Author.Needs.{needs}
+use Rattle.channel.proofs.Channel.set_wr1.Statement.{statement}
+use Rattle.channel.proofs.Channel.set_wr1.Tie as tie
+
+transmit-on-requires : tie.Need-transmit-on-requires
+transmit-on-requires c κs = search needs
+
+returns : tie.Need-returns
+returns c = simp (tests, ← c .before .transmit-on .ensures)
+
+pub set-wr1-spec : {M : Type 1} → statement M
+set-wr1-spec = tie.close (tie.spec transmit-on-requires returns)

@@ -1,0 +1,52 @@
+-- `chip::Chip::receive_a` meets its contract: each return by the facts on its way; inside a character the tick has a form of its own. Assumes
+-- nothing.
+use mathlib.Core.Path.{sym, _∙_}
+use lib.Dec.{eqb}
+use Rattle.channel.specs.Laws.Within.{receive-within}
+use Rattle.chip.proofs.Branch.{tests}
+use borrow.Author.Needs.{needs}
+use Rattle.chip.proofs.Chip.receive_a.Statement.{statement}
+use Rattle.chip.proofs.Chip.receive_a.Tie as tie
+
+refused-requires : tie.Need-refused-requires
+refused-requires c κs = search needs
+
+returns : tie.Need-returns
+returns c = simp (tests, c .before .if1 .taken) (c .refused .ensures)
+
+hears-within-requires : tie.Need-hears-within-requires
+hears-within-requires c κs = search needs
+
+hear-within-requires : tie.Need-hear-within-requires
+hear-within-requires c κs = search needs
+
+done-requires : tie.Need-done-requires
+done-requires c κs = search needs
+
+in-a-requires : tie.Need-in-a-requires
+in-a-requires c κs = search needs
+
+returns-2 : tie.Need-returns-2
+returns-2 c =
+    let a = c .before .before .before .before .before .before .args in
+    let e = receive-within (a .self .a) (eqb (a .bit) 1) (sym (c .before .before .before .before .hears-within .ensures) ∙ c .before .before .before .if2 .taken) in
+    simp (tests, c .in-a .ensures, c .before .done .ensures, c .before .before .hear-within .ensures, c .before .before .before .before .before .if1 .left, e)
+
+receive-tick-requires : tie.Need-receive-tick-requires
+receive-tick-requires c κs = search needs
+
+done-requires-2 : tie.Need-done-requires-2
+done-requires-2 c κs = search needs
+
+in-a-requires-2 : tie.Need-in-a-requires-2
+in-a-requires-2 c κs = search needs
+
+returns-3 : tie.Need-returns-3
+returns-3 c =
+    simp (tests, c .in-a2 .ensures, c .before .done2 .ensures, c .before .before .before .before .before .if1 .left, ← c .before .before .receive-tick .ensures)
+
+pub receive-a-spec : {M : Type 1} → statement M
+receive-a-spec =
+    tie.close
+    (tie.spec refused-requires returns hears-within-requires hear-within-requires done-requires in-a-requires returns-2 receive-tick-requires done-requires-2
+    in-a-requires-2 returns-3)

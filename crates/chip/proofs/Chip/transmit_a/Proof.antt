@@ -1,0 +1,35 @@
+-- `chip::Chip::transmit_a` meets its contract: inside a byte the tick has a form of its own. Assumes nothing.
+use mathlib.Core.Path.{sym, _∙_}
+use Rattle.channel.specs.Laws.Within.{within-tick}
+use borrow.Author.Needs.{needs}
+use Rattle.chip.proofs.Chip.transmit_a.Statement.{statement}
+use Rattle.chip.proofs.Chip.transmit_a.Tie as tie
+
+within-requires : tie.Need-within-requires
+within-requires c κs = search needs
+
+tick-within-requires : tie.Need-tick-within-requires
+tick-within-requires c κs = search needs
+
+in-a-requires : tie.Need-in-a-requires
+in-a-requires c κs = search needs
+
+returns : tie.Need-returns
+returns c =
+    let x = c .before .before .before .before .args .self .a in
+    let e = within-tick x (sym (c .before .before .before .within .ensures) ∙ c .before .before .if1 .taken) in
+    simp (e, ← c .before .tick-within .ensures) (c .in-a .ensures)
+
+transmit-tick-requires : tie.Need-transmit-tick-requires
+transmit-tick-requires c κs = search needs
+
+in-a-requires-2 : tie.Need-in-a-requires-2
+in-a-requires-2 c κs = search needs
+
+returns-2 : tie.Need-returns-2
+returns-2 c = simp (← c .before .transmit-tick .ensures) (c .in-a2 .ensures)
+
+pub transmit-a-spec : {M : Type 1} → statement M
+transmit-a-spec =
+    tie.close
+    (tie.spec within-requires tick-within-requires in-a-requires returns transmit-tick-requires in-a-requires-2 returns-2)

@@ -1,0 +1,35 @@
+-- `chip::Chip::transmit_b` meets its contract: inside a byte the tick has a form of its own. Assumes nothing.
+use mathlib.Core.Path.{sym, _∙_}
+use Rattle.channel.specs.Laws.Within.{within-tick}
+use borrow.Author.Needs.{needs}
+use Rattle.chip.proofs.Chip.transmit_b.Statement.{statement}
+use Rattle.chip.proofs.Chip.transmit_b.Tie as tie
+
+within-requires : tie.Need-within-requires
+within-requires c κs = search needs
+
+tick-within-requires : tie.Need-tick-within-requires
+tick-within-requires c κs = search needs
+
+in-b-requires : tie.Need-in-b-requires
+in-b-requires c κs = search needs
+
+returns : tie.Need-returns
+returns c =
+    let x = c .before .before .before .before .args .self .b in
+    let e = within-tick x (sym (c .before .before .before .within .ensures) ∙ c .before .before .if1 .taken) in
+    simp (e, ← c .before .tick-within .ensures) (c .in-b .ensures)
+
+transmit-tick-requires : tie.Need-transmit-tick-requires
+transmit-tick-requires c κs = search needs
+
+in-b-requires-2 : tie.Need-in-b-requires-2
+in-b-requires-2 c κs = search needs
+
+returns-2 : tie.Need-returns-2
+returns-2 c = simp (← c .before .transmit-tick .ensures) (c .in-b2 .ensures)
+
+pub transmit-b-spec : {M : Type 1} → statement M
+transmit-b-spec =
+    tie.close
+    (tie.spec within-requires tick-within-requires in-b-requires returns transmit-tick-requires in-b-requires-2 returns-2)

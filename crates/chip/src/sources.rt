@@ -1,0 +1,96 @@
+// 01, Interrupts: the sources of both channels as crate interrupts takes them, RR2, acknowledge and RETI. Assumes nothing.
+use crate::Acknowledged;
+use crate::Chip;
+use channel::Channel;
+use interrupts::Six;
+use interrupts::Sources;
+use interrupts::acknowledge;
+use interrupts::may_take;
+use settings::status_affects;
+use vector::Acked;
+use vector::Special;
+use vector::vector;
+ghost use mathlib.Core.Path.{_≡_};
+ghost use Rattle.channel.specs.Channel.{withService};
+ghost use Rattle.chip.specs.Interrupts.{pendingOf, serviceOf, inService, anyPending, rr2, acknowledge, reti};
+
+fn with_service(mut c: Channel, s: Sources) -> Channel
+    ensures { λ r. ⌜ r ≡ withService c s ⌝ }
+{
+    c.service = s;
+    c
+}
+
+impl Chip {
+    // The sources that are pending.
+    fn pending(self) -> Six
+        ensures { λ r. ⌜ r ≡ pendingOf self ⌝ }
+    {
+        Six {
+            a: self.a.pending(),
+            b: self.b.pending(),
+        }
+    }
+
+    // The sources in service.
+    fn service(self) -> Six
+        ensures { λ r. ⌜ r ≡ serviceOf self ⌝ }
+    {
+        let a = self.a.service;
+        let b = self.b.service;
+        Six { a, b }
+    }
+
+    // These sources are in service, and nothing else changes.
+    fn in_service(mut self, s: Six) -> Chip
+        ensures { λ r. ⌜ r ≡ inService self s ⌝ }
+    {
+        self.a = with_service(self.a, s.a);
+        self.b = with_service(self.b, s.b);
+        self
+    }
+
+    // Any source is pending.
+    pub fn any_pending(self) -> bool
+        ensures { λ r. ⌜ r ≡ anyPending self ⌝ }
+    {
+        self.pending().any()
+    }
+
+    // RR2, as B reads it.
+    pub fn rr2(self) -> u8
+        ensures { λ r. ⌜ r ≡ rr2 self ⌝ }
+    {
+        let special = Special {
+            a: self.a.special_waits(),
+            b: self.b.special_waits(),
+        };
+        let level = self.pending().highest();
+        vector(
+            self.b.registers.wr2,
+            status_affects(self.b.registers.wr1),
+            level,
+            special,
+        )
+    }
+
+    // Acknowledge.
+    pub fn acknowledge(self) -> Acknowledged
+        ensures { λ r. ⌜ r ≡ acknowledge self ⌝ }
+    {
+        let p = self.pending();
+        let s = self.service();
+        let w = Acked::by(may_take(p, s), self.rr2());
+        Acknowledged {
+            acked: w,
+            chip: self.in_service(acknowledge(p, s)),
+        }
+    }
+
+    // RETI.
+    pub fn reti(self) -> Chip
+        ensures { λ r. ⌜ r ≡ reti self ⌝ }
+    {
+        self.in_service(self.service().reti())
+    }
+}

@@ -1,4 +1,0 @@
-pub mod Come
-pub mod Stage
-pub mod Laws
-pub mod Start

@@ -1,0 +1,3 @@
+pub mod Drive
+pub mod Framer
+pub mod Laws

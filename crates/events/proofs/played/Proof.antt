@@ -1,0 +1,19 @@
+-- `events::played` meets its contract: each return by the facts on its way. Assumes nothing.
+use Rattle.events.proofs.Branch.{tests}
+use Rattle.events.specs.Run.{played}
+use borrow.Author.Needs.{needs}
+use Rattle.events.proofs.played.Statement.{statement}
+use Rattle.events.proofs.played.Tie as tie
+
+line-of-requires : tie.Need-line-of-requires
+line-of-requires c κs = search needs
+
+telling-requires : tie.Need-telling-requires
+telling-requires c κs = search needs
+
+returns : tie.Need-returns
+unfolding played
+returns c = simp (tests, ← c .before .line-of .ensures) (c .telling .ensures)
+
+pub played-spec : {M : Type 1} → statement M
+played-spec = tie.close (tie.spec line-of-requires telling-requires returns)

@@ -1,0 +1,151 @@
+-- Bytes and their bits: a byte as the receiver assembles it, the check as two bytes, and one flipped
+-- bit, which the check always finds. Assumes nothing.
+use mathlib.Core.Path.{_≡_, refl, sym, ap, ap₂, _∙_}
+use mathlib.Core.Logic.{_≢_}
+use mathlib.Core.Bool.{Bool, true, false, not}
+use mathlib.Core.List.{List, [], _∷_, _++_, append-nil}
+use Prim.Native.Nat.{ℕ, zero, suc, _+_, _*_, _/_, _%_, _≤_, _<_}
+use native.Mathlib.Omega.{arith}
+use lib.Dec.{T, eqb, eqb→eq}
+use lib.Bits.{bitXor, differ, xor-self, xor-zero-l, xor-zero-r}
+use lib.ListN.{length, take, drop, replicate, length-append, length-take, length-drop, take-append-drop}
+use Rattle.common.specs.Choice.{if_then_else_}
+use Rattle.common.specs.Tools.{below, below→, eqb-elim}
+use Rattle.line.specs.Bits.{lowBits, textBits}
+use Rattle.line.specs.Check.{sdlc, ones, differs, checkStep, checkOver, checkBits, remainder}
+use Rattle.line.specs.Frame.{noteBits, checkOf, contentOf}
+use Rattle.line.specs.Laws.Bits.{lowBits-fromLow, fromLow-lt, textBits-join}
+use Rattle.line.specs.Bits.{fromLow, Below, below-none as none, below-more as more}
+use Rattle.line.specs.Laws.Xor.{xor-assoc, xor-low, not-differs}
+use Rattle.line.specs.Laws.Check.{check-join, step-xor, check-linear, step-lt, checkBits-length}
+use Rattle.line.specs.Laws.Frame.{content-good}
+use Rattle.sdlc.specs.Hearing.{shiftIn}
+use Rattle.line.specs.Frame.{checkBytes, withCheck}
+
+-- A byte
+
+-- the bits shifted in from above, as a receiver does it
+unfoldable pub assembled : ℕ → List Bool → ℕ
+assembled p [] = p
+assembled p (b ∷ bs) = assembled (shiftIn b p) bs
+
+whole : ℕ → Bool
+whole v = eqb (assembled 0 (lowBits 8 v)) v
+
+all-whole : T (below whole 256)
+unfolding whole assembled lowBits
+all-whole = tt
+
+pub assembled-whole : (v : ℕ) → v < 256 → assembled 0 (lowBits 8 v) ≡ v
+unfolding whole
+assembled-whole v h = eqb→eq _ _ (below→ whole 256 all-whole v h)
+
+-- any eight bits are a byte's
+pub byte-of : (bs : List Bool) → length bs ≡ 8 → lowBits 8 (fromLow bs) ≡ bs
+byte-of bs e = rw e at (lowBits-fromLow bs)
+
+pub byte-lt : (bs : List Bool) → length bs ≡ 8 → fromLow bs < 256
+byte-lt bs e = rw e at (fromLow-lt bs)
+
+-- The check as two bytes
+
+first-eight : (r : ℕ) → length (take 8 (checkBits r)) ≡ 8
+first-eight r = rw (length-take 8 (checkBits r), checkBits-length r)
+
+last-eight : (r : ℕ) → length (drop 8 (checkBits r)) ≡ 8
+last-eight r = rw (length-drop 8 (checkBits r), checkBits-length r)
+
+check-bits : (r : ℕ) → textBits 8 (checkBytes r) ≡ checkBits r
+unfolding checkBytes textBits
+check-bits r =
+    let x = take 8 (checkBits r) in
+    let y = drop 8 (checkBits r) in
+    rw (byte-of x (first-eight r), byte-of y (last-eight r), append-nil y) (take-append-drop 8 (checkBits r))
+
+check-below : (r : ℕ) → Below 256 (checkBytes r)
+unfolding checkBytes
+check-below r =
+    more (byte-lt (take 8 (checkBits r)) (first-eight r))
+    (more (byte-lt (drop 8 (checkBits r)) (last-eight r)) none)
+
+below-join : {m : ℕ} {xs ys : List ℕ} → Below m xs → Below m ys → Below m (xs ++ ys)
+below-join none q = q
+below-join (more h p) q = more h (below-join p q)
+
+-- a frame's content is the bits of those bytes, and its check is good
+pub content-bytes : (note : List ℕ) → contentOf note ≡ noteBits (withCheck note)
+content-bytes note =
+    ap (λ (l : List Bool). noteBits note ++ l) (sym (check-bits (checkOf note)))
+    ∙ sym (textBits-join 8 note (checkBytes (checkOf note)))
+
+pub withCheck-below : {note : List ℕ} → Below 256 note → Below 256 (withCheck note)
+withCheck-below {note} h = below-join h (check-below (checkOf note))
+
+pub withCheck-good : (note : List ℕ) → checkOver sdlc ones (noteBits (withCheck note)) ≡ remainder
+withCheck-good note = ap (checkOver sdlc ones) (sym (content-bytes note)) ∙ content-good note
+
+pub withCheck-length : (note : List ℕ) → length (withCheck note) ≡ length note + 2
+unfolding checkBytes
+withCheck-length note = length-append note (checkBytes (checkOf note))
+
+-- Bits in eights are bytes
+
+pub record OfBits (n : ℕ) (bs : List Bool) : Type 0 where
+  pub bytes : List ℕ
+  pub fit : Below 256 bytes
+  pub are : noteBits bytes ≡ bs
+  pub count : length bytes ≡ n
+
+pub of-bits : (n : ℕ) (bs : List Bool) → length bs ≡ 8 * n → OfBits n bs
+unfolding textBits
+of-bits zero [] h = record { bytes = []; fit = none; are = refl; count = refl }
+of-bits zero (b ∷ bs) h = absurd (omega arith)
+of-bits (suc n) bs h =
+    let l : length (take 8 bs) ≡ 8 = omega (arith, length-take 8 bs) in
+    let k = of-bits n (drop 8 bs) (omega (arith, length-drop 8 bs)) in
+    record {
+      bytes = fromLow (take 8 bs) ∷ k .bytes;
+      fit = more (byte-lt (take 8 bs) l) (k .fit);
+      are = ap₂ (λ (x y : List Bool). x ++ y) (byte-of (take 8 bs) l) (k .are) ∙ take-append-drop 8 bs;
+      count = ap suc (k .count);
+    }
+
+-- One flipped bit is always found: the two registers then differ, and a difference that is not 0 stays so over any bits
+
+step-live : (r : ℕ) → 1 ≤ r → r < 65536 → 1 ≤ checkStep sdlc r false
+unfolding checkStep
+step-live r h l =
+    eqb-elim (λ t. 1 ≤ (if differs t false then bitXor (r % 32768 * 2) sdlc else r % 32768 * 2))
+    (r / 32768 % 2) 1
+    (λ e.
+    let v : ℕ = r % 32768 * 2 in
+    let z : v % 2 ≡ 0 = omega arith in
+    let o : bitXor v sdlc % 2 ≡ 1 = xor-low v sdlc ∙ ap (λ (x : ℕ). differ x 1) z in
+    omega arith)
+    (λ e. omega arith)
+
+zeros-live : (r n : ℕ) → 1 ≤ r → r < 65536 → 1 ≤ checkOver sdlc r (replicate n false)
+unfolding checkOver
+zeros-live r zero h l = h
+zeros-live r (suc n) h l =
+    zeros-live (checkStep sdlc r false) n (step-live r h l) (step-lt sdlc (omega arith) r false)
+
+pub flip-found : (r k : ℕ) (xs ys : List Bool) (b : Bool)
+    → checkOver sdlc r (xs ++ (b ∷ ys)) ≡ k → checkOver sdlc r (xs ++ (not b ∷ ys)) ≢ k
+unfolding checkOver
+flip-found r k xs ys b e f =
+    let s = checkOver sdlc r xs in
+    let x = checkStep sdlc s b in
+    let y = checkStep sdlc s (not b) in
+    let one : checkStep sdlc 0 true ≡ sdlc = unfold checkStep in refl in
+    let p : y ≡ bitXor x sdlc =
+    ap₂ (λ (u : ℕ) (c : Bool). checkStep sdlc u c) (sym (xor-zero-r s)) (not-differs b)
+    ∙ step-xor sdlc s 0 b true ∙ ap (bitXor x) one in
+    let d : bitXor x y ≡ sdlc =
+    ap (bitXor x) p ∙ sym (xor-assoc x x sdlc)
+    ∙ ap (λ (u : ℕ). bitXor u sdlc) (xor-self x) ∙ xor-zero-l sdlc in
+    let z : checkOver sdlc sdlc (replicate (length ys) false) ≡ 0 =
+    ap (λ (u : ℕ). checkOver sdlc u (replicate (length ys) false)) (sym d) ∙ sym (check-linear sdlc x y ys)
+    ∙ ap₂ bitXor (sym (check-join sdlc r xs (b ∷ ys)) ∙ e) (sym (check-join sdlc r xs (not b ∷ ys)) ∙ f)
+    ∙ xor-self k in
+    omega (arith, zeros-live sdlc (length ys) (omega arith) (omega arith))

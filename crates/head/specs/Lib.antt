@@ -1,0 +1,2 @@
+pub mod NoteHead
+pub mod Laws

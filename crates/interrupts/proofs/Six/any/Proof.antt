@@ -1,0 +1,15 @@
+use Rattle.interrupts.proofs.Branch.{tests}
+use Rattle.interrupts.specs.Interrupts.{anyOf}
+use borrow.Author.Needs.{needs}
+use Rattle.interrupts.proofs.Six.any.Statement.{statement}
+use Rattle.interrupts.proofs.Six.any.Tie as tie
+
+highest-requires : tie.Need-highest-requires
+highest-requires c κs = search needs
+
+returns : tie.Need-returns
+unfolding anyOf
+returns c = simp (tests, c .highest .ensures)
+
+pub any-spec : {M : Type 1} → statement M
+any-spec = tie.close (tie.spec highest-requires returns)

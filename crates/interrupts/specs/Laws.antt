@@ -1,0 +1,2 @@
+-- The laws of the six sources.
+pub mod Priority

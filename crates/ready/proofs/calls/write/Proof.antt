@@ -1,0 +1,15 @@
+-- `ready::write` meets its contract. Assumes nothing.
+use Rattle.drive.specs.Drive.{writeA}
+use borrow.Author.Needs.{needs}
+use Rattle.ready.proofs.calls.write.Statement.{statement}
+use Rattle.ready.proofs.calls.write.Tie as tie
+
+data-write-requires : tie.Need-data-write-requires
+data-write-requires c κs = search needs
+
+returns : tie.Need-returns
+unfolding writeA
+returns c = rw (c .before .data-write .ensures)
+
+pub write-spec : {M : Type 1} → statement M
+write-spec = tie.close (tie.spec data-write-requires returns)

@@ -1,0 +1,14 @@
+-- `receiver::Receiver::hunting` meets its contract: each return by the facts on its way. Assumes nothing.
+use Rattle.receiver.proofs.Branch.{tests}
+use borrow.Author.Needs.{needs}
+use Rattle.receiver.proofs.Receiver.hunting.Statement.{statement}
+use Rattle.receiver.proofs.Receiver.hunting.Tie as tie
+
+in-sdlc-requires : tie.Need-in-sdlc-requires
+in-sdlc-requires c κs = search needs
+
+returns : tie.Need-returns
+returns c = simp (tests, ← c .before .in-sdlc .ensures)
+
+pub hunting-spec : {M : Type 1} → statement M
+hunting-spec = tie.close (tie.spec in-sdlc-requires returns)

@@ -1,0 +1,76 @@
+-- 01, Note list and line: what sending a list tells, note by note and in all. Assumes nothing.
+use mathlib.Core.Bool.{Bool, true, false}
+use mathlib.Core.List.{List, [], _∷_, _++_, foldl}
+use Prim.Native.Nat.{ℕ, _+_, _-_, _*_, _/_}
+use lib.Dec.{leb}
+use lib.ListN.{length}
+use lib.Seq.{sets}
+use Rattle.common.specs.Choice.{if_then_else_}
+use Rattle.common.specs.declared.Refusal.{Refusal}
+use Rattle.line.specs.Frame.{flagBits, zerosOf, ticksOf}
+use Rattle.line.specs.Line.{noteFits}
+use Rattle.notes.specs.NoteList.{Reading, whole, refuses, readList}
+use Rattle.report.specs.declared.Pages.{Pages}
+use Rattle.report.specs.declared.Pages.the-variants as pages
+
+-- A note
+
+-- "Lines: number, bytes, zeros inserted, ticks with both flags"
+abbrev pub rowOf : ℕ → List ℕ → List ℕ
+rowOf number note = number ∷ (length note ∷ (zerosOf note ∷ (ticksOf note ∷ [])))
+
+abbrev pub rowLength : ℕ
+rowLength = 4
+
+-- the rows of these notes, one behind the other
+unfoldable pub rowsFrom : ℕ → List (List ℕ) → List ℕ
+rowsFrom number [] = []
+rowsFrom number (note ∷ notes) = rowOf number note ++ rowsFrom (number + 1) notes
+
+-- the ticks of a note, 0 of one that has no frame
+abbrev pub noteTicks : List ℕ → ℕ
+noteTicks note = if noteFits (length note) then ticksOf note else 0
+
+-- A list
+
+abbrev pub withNote : ℕ → List ℕ → ℕ
+withNote sum note = sum + ticksOf note
+
+-- "a closing flag opens the next frame": each note brings its ticks, and each but the first
+-- shares a flag
+abbrev pub inAll : ℕ → ℕ → ℕ
+inAll sum notes = sum - length flagBits * (notes - 1)
+
+-- "ticks in all (0 for none)"
+abbrev pub totalTicks : List (List ℕ) → ℕ
+totalTicks notes = inAll (foldl withNote 0 notes) (length notes)
+
+-- the whole report: the rows, "last `end`, notes, ticks in all"; or the list's refusal alone
+pub data Report : Type 0 where
+  report : (rows : List ℕ) (notes ticks : ℕ) → Report
+  refusal : Refusal → Report
+
+abbrev pub reported : Reading → Report
+reported (whole notes) = report (rowsFrom 1 notes) (length notes) (totalTicks notes)
+reported (refuses k) = refusal k
+
+abbrev pub reportOf : List ℕ → Report
+reportOf list = reported (readList list)
+
+-- What a caller has of it
+
+-- rows go into a lent part where they are told, all of them or, where it is too short, none
+abbrev pub hasRoom : ℕ → List ℕ → Bool
+hasRoom notes lent = leb notes (length lent / rowLength)
+
+abbrev pub toldAt : Bool → List ℕ → ℕ → List ℕ → List ℕ
+toldAt told lent at rows = if told then sets lent at rows else lent
+
+abbrev pub rowsIn : List ℕ → Report → List ℕ
+rowsIn lent (report rows notes ticks) = toldAt (hasRoom notes lent) lent 0 rows
+rowsIn lent (refusal k) = lent
+
+-- the page timer's answer: the ticks in all
+abbrev pub pagesOf : Report → Pages
+pagesOf (report rows notes ticks) = pages.Ticks ticks
+pagesOf (refusal k) = pages.Refused k

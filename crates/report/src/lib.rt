@@ -1,0 +1,67 @@
+// What sending a list tells: the report's definitions (specs/Report.antt), and the page timer, which counts a list's ticks without a chip.
+// Assumes nothing.
+mod note;
+
+use crate::note::note_ticks;
+use common::Refusal;
+use head::LENGTH_BYTES;
+use head::note_at;
+use notes::FIRST_NOTE;
+use notes::Scanned;
+use notes::scan;
+ghost use mathlib.Core.Path.{_≡_};
+ghost use Rattle.notes.specs.NoteList.{readList, scanned};
+ghost use Rattle.notes.specs.declared.Scanned.the-variants.{Notes};
+ghost use Rattle.report.specs.declared.Pages.the-variants.{Ticks};
+ghost use Rattle.report.specs.Report.{inAll, reportOf, pagesOf};
+
+// The page timer's answer: as many ticks as the list takes, or why it is refused.
+pub enum Pages {
+    Ticks(usize),
+    Refused(Refusal),
+}
+
+// A flag's ticks.
+pub const FLAG: usize = 8;
+
+// The ticks of so many notes, one behind the other, from the sum of theirs: a closing flag opens the next frame.
+pub fn in_all(sum: usize, notes: usize) -> usize
+    ensures { λ r. ⌜ r ≡ inAll sum notes ⌝ }
+{
+    if notes == 0 {
+        return sum;
+    }
+    let shared = notes - 1;
+    if sum / FLAG < shared {
+        return 0;
+    }
+    sum - FLAG * shared
+}
+
+// The ticks of a list in which the scan found so many notes.
+fn list_ticks(list: &[u8], n: usize) -> usize
+    requires { ⌜ scanned (readList (now list)) ≡ Notes n ⌝ }
+    ensures { λ r. ⌜ Ticks r ≡ pagesOf (reportOf (now (list .entry))) ⌝ }
+{
+    let mut i = FIRST_NOTE;
+    let mut sum: usize = 0;
+    let mut left = n;
+    while 0 < left {
+        let note = note_at(list, i);
+        sum = sum + note_ticks(note);
+        i = i + LENGTH_BYTES + note.len();
+        left = left - 1;
+    }
+    in_all(sum, n)
+}
+
+// The page timer: as many ticks as sending the list takes.
+pub fn page_ticks(list: &[u8]) -> Pages
+    ensures { λ r. ⌜ r ≡ pagesOf (reportOf (now (list .entry))) ⌝ }
+{
+    let s = scan(list);
+    match s {
+        Scanned::Notes(n) => Pages::Ticks(list_ticks(list, n)),
+        Scanned::Refused(k) => Pages::Refused(k),
+    }
+}

@@ -1,0 +1,5 @@
+-- Laws of SDLC's ticks; those of whole frames stand in crate frames. Assumes nothing.
+pub mod Tick
+pub mod Plain
+pub mod Within
+pub mod Sound

@@ -1,0 +1,5 @@
+pub mod Sending
+pub mod Hearing
+pub mod Within
+pub mod Sound
+pub mod Laws

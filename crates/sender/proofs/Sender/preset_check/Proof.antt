@@ -1,0 +1,17 @@
+-- `sender::Sender::preset_check` meets its contract: each return by the facts on its way. Assumes nothing.
+use Rattle.sender.proofs.Branch.{tests}
+use borrow.Author.Needs.{needs}
+use Rattle.sender.proofs.Sender.preset_check.Statement.{statement}
+use Rattle.sender.proofs.Sender.preset_check.Tie as tie
+
+check-set-requires : tie.Need-check-set-requires
+check-set-requires c κs = search needs
+
+with-shared-requires : tie.Need-with-shared-requires
+with-shared-requires c κs = search needs
+
+returns : tie.Need-returns
+returns c = simp (tests, ← c .before .check-set .ensures) (c .with-shared .ensures)
+
+pub preset-check-spec : {M : Type 1} → statement M
+preset-check-spec = tie.close (tie.spec check-set-requires with-shared-requires returns)
