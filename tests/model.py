@@ -507,4 +507,7 @@ def run(data):
 
 
 if __name__ == '__main__':
+    if sys.argv[1:]:
+        print(__doc__.strip(), file=sys.stdout if sys.argv[1] in ('-h', '--help') else sys.stderr)
+        sys.exit(0 if sys.argv[1] in ('-h', '--help') else 2)
     sys.stdout.write(''.join(line + '\n' for line in run(sys.stdin.buffer.read())))
