@@ -15,14 +15,14 @@ use Rattle.queue.specs.Holding.{Holds, h0}
 use Rattle.chip.specs.Computing.{computing}
 use Rattle.chip.specs.declared.Chip.{Chip}
 use Rattle.chip.specs.Event.{Event, DataRead}
-use Rattle.frames.specs.Start.{flagHead}
+use Rattle.whole.specs.Start.{flagHead}
 use Rattle.stories.specs.Story.{A, B, chan, after}
 use Rattle.stories.specs.Sent.{lineOf, ticks}
 use Rattle.stories.specs.Received.{bitsOf}
 use Rattle.stories.specs.Sending.{times, begin, noisy, begun}
 use Rattle.stories.specs.Receiving.{listening, story}
-use Rattle.frames.specs.Heard.{in-hunt, flagFree, lead}
-use Rattle.frames.specs.Frames.{ended}
+use Rattle.whole.specs.Heard.{in-hunt, flagFree, lead}
+use Rattle.whole.specs.Frames.{ended}
 use Rattle.line.specs.Frame.{withCheck}
 use Rattle.demands.specs.Receiving.Statement.{sideOf, Listening, Received, NoEndTold}
 use Rattle.demands.specs.Receiving.Room.{inRoom, fed}

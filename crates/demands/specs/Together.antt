@@ -9,11 +9,11 @@ use Rattle.line.specs.Frame.{zerosOf}
 use Rattle.line.specs.Bits.{Below}
 use Rattle.chip.specs.declared.Chip.{Chip}
 use Rattle.chip.specs.Event.{Event}
-use Rattle.frames.specs.Start.{flagHead}
+use Rattle.whole.specs.Start.{flagHead}
 use Rattle.stories.specs.Story.{Which}
 use Rattle.stories.specs.Sent.{lineOf, ticks}
 use Rattle.stories.specs.Received.{bitsOf}
-use Rattle.frames.specs.Frames.{ended}
+use Rattle.whole.specs.Frames.{ended}
 use Rattle.line.specs.Frame.{withCheck}
 use Rattle.demands.specs.Receiving.Statement.{Listening, Fed, Received}
 use Rattle.demands.specs.Receiving.Statement as receiving

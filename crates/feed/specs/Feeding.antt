@@ -10,7 +10,7 @@ use Rattle.shared.specs.declared.Shared.{Shared}
 use Rattle.sdlc.specs.declared.LineUnit.the-variants.{Flag}
 use Rattle.sdlc.specs.declared.Framer.{Framer}
 use Rattle.sdlc.specs.Sending.{notCounted, framer, checking, tickSdlc}
-use Rattle.frames.specs.Come.{good, toCome, filledWith}
+use Rattle.whole.specs.Come.{good, toCome, filledWith}
 use Rattle.feed.specs.declared.Run.{Run}
 
 -- RR0 "D2 transmit buffer empty and no check being sent"

@@ -15,7 +15,7 @@ use Rattle.sdlc.specs.declared.LineUnit.the-variants.{Byte}
 use Rattle.sdlc.specs.declared.Framer.{Framer}
 use Rattle.sdlc.specs.Sending.{framer, tickSdlc}
 use Rattle.sdlc.specs.Within.{byteLeft, byteRest, within}
-use Rattle.frames.specs.Come.{good, filledWith}
+use Rattle.whole.specs.Come.{good, filledWith}
 use Rattle.feed.specs.declared.Bits.{Bits}
 use Rattle.feed.specs.declared.Run.{Run}
 use Rattle.feed.specs.declared.Place.{Place}

@@ -16,9 +16,9 @@ ghost use mathlib.Core.Path.{_≡_};
 ghost use mathlib.Core.Bool.{false};
 ghost use Prim.Native.Nat.{_≤_};
 ghost use lib.ListN.{length};
-ghost use Rattle.frames.specs.Come.{good, toCome};
-ghost use Rattle.frames.specs.Stage.{Stage};
-ghost use Rattle.frames.specs.Start.{frameEnded};
+ghost use Rattle.whole.specs.Come.{good, toCome};
+ghost use Rattle.whole.specs.Stage.{Stage};
+ghost use Rattle.whole.specs.Start.{frameEnded};
 ghost use Rattle.feed.specs.Feeding.{takesByte, toTheEnd, frameFed};
 ghost use Rattle.feed.specs.Turns.{supplyAt, turn};
 

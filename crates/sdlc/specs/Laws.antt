@@ -1,4 +1,4 @@
--- Laws of SDLC's ticks; those of whole frames stand in crate frames. Assumes nothing.
+-- Laws of SDLC's ticks; those of whole frames stand in crate whole. Assumes nothing.
 pub mod Tick
 pub mod Plain
 pub mod Within

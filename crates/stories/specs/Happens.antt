@@ -18,7 +18,7 @@ use Rattle.sdlc.specs.declared.LineUnit.the-variants.{Mark, Flag, Byte, Check, 
 use Rattle.sdlc.specs.Sending.{insertion, notCounted, paid, framer, aborting, checking}
 use Rattle.sdlc.specs.Hearing.{chars, noChars, content, contentAt, pastFlag}
 use Rattle.sdlc.specs.Within.{byteLeft, byteRest}
-use Rattle.frames.specs.Start.{endedBy}
+use Rattle.whole.specs.Start.{endedBy}
 use Rattle.sender.specs.declared.Sender.{Sender}
 use Rattle.sender.specs.Sender.{sender, withShared, framerOf, framerIn, idled, bufferReady}
 use Rattle.receiver.specs.declared.Receiver.{Receiver}

@@ -14,7 +14,7 @@ use Rattle.chip.specs.Computing.{computing}
 use Rattle.chip.specs.declared.Chip.{Chip}
 use Rattle.chip.specs.Chip.{hardReset}
 use Rattle.chip.specs.Event.{Event, ControlWrite, ControlRead, DataWrite, DataRead, Transmit, Receive, SetLines, Acknowledge, Reti}
-use Rattle.frames.specs.Start.{flagHead}
+use Rattle.whole.specs.Start.{flagHead}
 use Rattle.stories.specs.Story.{A, happens, after}
 use Rattle.stories.specs.Sent.{lineOf, ticks, d6, d2, resetStatus}
 

@@ -13,8 +13,8 @@ use Rattle.sdlc.specs.declared.Listener.{Listener}
 use Rattle.sdlc.specs.declared.Listened.{Listened}
 use Rattle.sdlc.specs.Hearing.{hearSdlc}
 use Rattle.sdlc.specs.Laws.Plain.{hear-plain}
-use Rattle.frames.specs.Heard.{handed, before, hearAll}
-use Rattle.frames.specs.Laws.Heard.{before-join}
+use Rattle.whole.specs.Heard.{handed, before, hearAll}
+use Rattle.whole.specs.Laws.Heard.{before-join}
 use Rattle.receiver.specs.declared.Receiving.{Receiving}
 use Rattle.chip.specs.declared.Chip.{Chip}
 use Rattle.chip.specs.Event.{Event}

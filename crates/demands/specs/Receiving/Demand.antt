@@ -22,11 +22,11 @@ use Rattle.asynchronous.specs.Sending.{underWay}
 use Rattle.sdlc.specs.declared.Addressing.{Addressing}
 use Rattle.sdlc.specs.declared.Listener.{Listener}
 use Rattle.sdlc.specs.Hearing.{pastFlag}
-use Rattle.frames.specs.Heard.{Final, final, before, hearAll, past-flag}
-use Rattle.frames.specs.Frames.{ended, allEnded}
+use Rattle.whole.specs.Heard.{Final, final, before, hearAll, past-flag}
+use Rattle.whole.specs.Frames.{ended, allEnded}
 use Rattle.line.specs.Frame.{withCheck}
-use Rattle.frames.specs.Laws.Bytes.{withCheck-length}
-use Rattle.frames.specs.Laws.Frames.{unaddressed, frame-heard, notes-heard}
+use Rattle.whole.specs.Laws.Bytes.{withCheck-length}
+use Rattle.whole.specs.Laws.Frames.{unaddressed, frame-heard, notes-heard}
 use Rattle.receiver.specs.declared.Receiving.{Receiving}
 use Rattle.settings.specs.Settings.{sendingOf, receivingOf}
 use Rattle.channel.specs.declared.Channel.{Channel}

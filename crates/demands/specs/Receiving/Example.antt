@@ -18,10 +18,10 @@ use Rattle.chip.specs.Event.{Event, ControlWrite, ControlRead, DataRead}
 use Rattle.stories.specs.Story.{A, chan, happens, after}
 use Rattle.stories.specs.Received.{bitsOf, valuesOf, bytesOf, goodEnd, noEnd}
 use Rattle.stories.specs.Receiving.{listening, story, noise, noisy, unread, named, unflipped, flippedLine, told}
-use Rattle.frames.specs.Heard.{in-hunt}
-use Rattle.frames.specs.Frames.{ended, betweenFlags, framesOf, allEnded}
+use Rattle.whole.specs.Heard.{in-hunt}
+use Rattle.whole.specs.Frames.{ended, betweenFlags, framesOf, allEnded}
 use Rattle.line.specs.Frame.{checkBytes, withCheck}
-use Rattle.frames.specs.Frames.{no-more, one-more}
+use Rattle.whole.specs.Frames.{no-more, one-more}
 use Rattle.demands.specs.Receiving.Statement.{sideOf, Listening, Received, Moment, Found}
 use Rattle.demands.specs.Receiving.Room.{inRoom, fed, demand2-run}
 use Rattle.demands.specs.Receiving.Demand.{listens-again, notes2, always2, overrun-kept, mark2}

@@ -14,10 +14,10 @@ use Rattle.chip.specs.declared.Chip.{Chip}
 use Rattle.chip.specs.Event.{Event}
 use Rattle.stories.specs.Story.{Which, chan}
 use Rattle.stories.specs.Received.{bitsOf}
-use Rattle.frames.specs.Heard.{hearAll}
-use Rattle.frames.specs.Frames.{ended, betweenFlags}
-use Rattle.frames.specs.Laws.Bytes.{of-bits, flip-found}
-use Rattle.frames.specs.Laws.Frames.{unaddressed, badIf, bytes-heard}
+use Rattle.whole.specs.Heard.{hearAll}
+use Rattle.whole.specs.Frames.{ended, betweenFlags}
+use Rattle.whole.specs.Laws.Bytes.{of-bits, flip-found}
+use Rattle.whole.specs.Laws.Frames.{unaddressed, badIf, bytes-heard}
 use Rattle.demands.specs.Receiving.Statement.{sideOf, Listening, Fed, Received, Flipped2}
 use Rattle.demands.specs.Receiving.Demand.{addressOf, received-bytes}
 

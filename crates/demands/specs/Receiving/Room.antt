@@ -11,7 +11,7 @@ use Rattle.chip.specs.declared.Chip.{Chip}
 use Rattle.chip.specs.Event.{Event}
 use Rattle.stories.specs.Story.{Which, happens}
 use Rattle.stories.specs.Received.{Role, Hears, Reads, Else, role, bitsOf}
-use Rattle.frames.specs.Frames.{ended}
+use Rattle.whole.specs.Frames.{ended}
 use Rattle.line.specs.Frame.{withCheck}
 use Rattle.demands.specs.Receiving.Statement.{sideOf, Listening, roomy, Fed, over, hears, reads}
 use Rattle.demands.specs.Receiving.Statement.{still, Received}

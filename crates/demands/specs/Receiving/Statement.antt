@@ -18,8 +18,8 @@ use Rattle.queue.specs.Holding.{Holds}
 use Rattle.sdlc.specs.declared.Listener.{Listener}
 use Rattle.sdlc.specs.declared.Listened.{Listened}
 use Rattle.sdlc.specs.Hearing.{pastFlag, hearSdlc}
-use Rattle.frames.specs.Heard.{Fresh, endMarks}
-use Rattle.frames.specs.Frames.{ended, betweenFlags, framesOf, allEnded, Notes}
+use Rattle.whole.specs.Heard.{Fresh, endMarks}
+use Rattle.whole.specs.Frames.{ended, betweenFlags, framesOf, allEnded, Notes}
 use Rattle.line.specs.Frame.{withCheck}
 use Rattle.receiver.specs.declared.Receiving.{Receiving}
 use Rattle.receiver.specs.Receiver.{listenerOf}

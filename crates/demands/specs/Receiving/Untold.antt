@@ -7,8 +7,8 @@ use Prim.Native.Nat.{ℕ, _≤_}
 use native.Mathlib.Omega.{arith}
 use Rattle.entry.specs.declared.Entry.{Entry}
 use Rattle.queue.specs.Holding.{Holds}
-use Rattle.frames.specs.Heard.{Final, hearAll, flagFree, abortedLine, endMarks}
-use Rattle.frames.specs.Laws.Deaf.{end-marks-join, abort-no-end}
+use Rattle.whole.specs.Heard.{Final, hearAll, flagFree, abortedLine, endMarks}
+use Rattle.whole.specs.Laws.Deaf.{end-marks-join, abort-no-end}
 use Rattle.chip.specs.declared.Chip.{Chip}
 use Rattle.chip.specs.Event.{Event}
 use Rattle.stories.specs.Story.{Which, chan}

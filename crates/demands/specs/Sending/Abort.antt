@@ -31,12 +31,12 @@ use Rattle.channel.specs.Control.{commanded, preset, commandStep, presetStep, w
 use Rattle.chip.specs.declared.Chip.{Chip}
 use Rattle.chip.specs.Chip.{controlWriteA, controlWrite}
 use Rattle.chip.specs.Event.{Event, ControlWrite, Transmit}
-use Rattle.frames.specs.Come.{flagTail}
-use Rattle.frames.specs.Come as come
-use Rattle.frames.specs.Stage.{Stage, opening, inByte, inCheck, closing}
-use Rattle.frames.specs.Start.{flagHead}
-use Rattle.frames.specs.Heard.{hearAll, flagFree, onesOver, lead}
-use Rattle.frames.specs.Laws.Deaf.{content-free, free-front, ones-counted, abort-no-end}
+use Rattle.whole.specs.Come.{flagTail}
+use Rattle.whole.specs.Come as come
+use Rattle.whole.specs.Stage.{Stage, opening, inByte, inCheck, closing}
+use Rattle.whole.specs.Start.{flagHead}
+use Rattle.whole.specs.Heard.{hearAll, flagFree, onesOver, lead}
+use Rattle.whole.specs.Laws.Deaf.{content-free, free-front, ones-counted, abort-no-end}
 use Rattle.stories.specs.Story.{Which, A, B, number, chan, happens, after}
 use Rattle.stories.specs.Sent.{isTick, lineBit, lineOf, ticks}
 use Rattle.demands.specs.Receiving.Untold.{abort-untold}

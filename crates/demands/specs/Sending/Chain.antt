@@ -20,10 +20,10 @@ use Rattle.channel.specs.Control.{commanded, preset, commandStep, presetStep, w
 use Rattle.chip.specs.declared.Chip.{Chip}
 use Rattle.chip.specs.Chip.{controlWriteA, controlWrite}
 use Rattle.chip.specs.Event.{ControlWrite}
-use Rattle.frames.specs.Come.{toCome}
-use Rattle.frames.specs.Stage.{Stage, opening, inByte, inCheck, closing}
-use Rattle.frames.specs.Start.{flagHead}
-use Rattle.frames.specs.Laws.Start.{unended-some}
+use Rattle.whole.specs.Come.{toCome}
+use Rattle.whole.specs.Stage.{Stage, opening, inByte, inCheck, closing}
+use Rattle.whole.specs.Start.{flagHead}
+use Rattle.whole.specs.Laws.Start.{unended-some}
 use Rattle.stories.specs.Story.{Which, A, B, number, chan, happens, after}
 use Rattle.stories.specs.Sent.{lineOf}
 use Rattle.demands.specs.Sending.Side.{SenderSide, good-of, sendingIn}

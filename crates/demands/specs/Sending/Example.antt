@@ -15,8 +15,8 @@ use Rattle.sender.specs.Good.{Good}
 use Rattle.receiver.specs.Receiver.{listenerOf, reset}
 use Rattle.chip.specs.Computing.{computing}
 use Rattle.chip.specs.Event.{Event, ControlWrite, DataWrite, Transmit}
-use Rattle.frames.specs.Start.{flagHead}
-use Rattle.frames.specs.Heard.{hearAll, endMarks}
+use Rattle.whole.specs.Start.{flagHead}
+use Rattle.whole.specs.Heard.{hearAll, endMarks}
 use Rattle.stories.specs.Story.{A, chan, happens, after}
 use Rattle.stories.specs.Sent.{lineOf, ticks, d6, resetStatus}
 use Rattle.stories.specs.Sending.{times, tick, setUp, begin, noisy, dry, late, whole, choosing, held, begun, sendAbort, gone, told}

@@ -27,12 +27,12 @@ use Rattle.chip.specs.declared.Chip.{Chip}
 use Rattle.chip.specs.Chip.{onLevel, dataWriteCall, transmitCall}
 use Rattle.chip.specs.Event.{Event, DataWrite, Transmit}
 use Rattle.chip.specs.Sound.{SoundChip}
-use Rattle.frames.specs.Come.{toCome, filledWith}
-use Rattle.frames.specs.Come as come
-use Rattle.frames.specs.Stage.{sinceAfter, inTime, Stage}
-use Rattle.frames.specs.Start.{started, flagHead}
-use Rattle.frames.specs.Laws.Come.{takes, moves, later}
-use Rattle.frames.specs.Laws.Start.{head-length, at-start, start-stage}
+use Rattle.whole.specs.Come.{toCome, filledWith}
+use Rattle.whole.specs.Come as come
+use Rattle.whole.specs.Stage.{sinceAfter, inTime, Stage}
+use Rattle.whole.specs.Start.{started, flagHead}
+use Rattle.whole.specs.Laws.Come.{takes, moves, later}
+use Rattle.whole.specs.Laws.Start.{head-length, at-start, start-stage}
 use Rattle.stories.specs.Story.{Which, A, B, number, chan, happens, after}
 use Rattle.stories.specs.Sent.{Role, ticksBy, isTick, lineBit, lineOf, ticks}
 use Rattle.demands.specs.Sound.{unit-sound}

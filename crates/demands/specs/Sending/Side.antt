@@ -18,7 +18,7 @@ use Rattle.channel.specs.declared.Channel.{Channel}
 use Rattle.chip.specs.declared.Chip.{Chip}
 use Rattle.chip.specs.Event.{Event, HardReset, ControlWrite, ControlRead, DataWrite, DataRead}
 use Rattle.chip.specs.Event.{Transmit, Receive, SetLines, Acknowledge, Reti}
-use Rattle.frames.specs.Come as come
+use Rattle.whole.specs.Come as come
 use Rattle.stories.specs.Story.{Which, number, chan}
 use Rattle.stories.specs.Sent.{Role, Ticks, Writes, Else, role}
 

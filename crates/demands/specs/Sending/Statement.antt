@@ -18,10 +18,10 @@ use Rattle.queue.specs.Holding.{Holds}
 use Rattle.settings.specs.Settings.{commandIn}
 use Rattle.chip.specs.declared.Chip.{Chip}
 use Rattle.chip.specs.Event.{Event, ControlWrite, DataWrite, Transmit}
-use Rattle.frames.specs.Come.{opens}
-use Rattle.frames.specs.Stage.{sinceAfter, inTime}
-use Rattle.frames.specs.Start.{flagHead}
-use Rattle.frames.specs.Heard.{hearAll, flagFree, endMarks}
+use Rattle.whole.specs.Come.{opens}
+use Rattle.whole.specs.Stage.{sinceAfter, inTime}
+use Rattle.whole.specs.Start.{flagHead}
+use Rattle.whole.specs.Heard.{hearAll, flagFree, endMarks}
 use Rattle.stories.specs.Story.{Which, number, chan, happens, after}
 use Rattle.stories.specs.Sent.{Else, role, isTick, lineOf, ticks, d6, resetStatus}
 use Rattle.stories.specs.Received.{bitsOf}

@@ -10,8 +10,8 @@ use Rattle.common.specs.Tools.{void, both-left, both-right, not-true}
 use Rattle.line.specs.Frame.{frame, zerosOf}
 use Rattle.chip.specs.declared.Chip.{Chip}
 use Rattle.chip.specs.Event.{Event}
-use Rattle.frames.specs.Stage.{sinceAfter, inTime}
-use Rattle.frames.specs.Start.{flagHead}
+use Rattle.whole.specs.Stage.{sinceAfter, inTime}
+use Rattle.whole.specs.Start.{flagHead}
 use Rattle.stories.specs.Story.{Which, happens}
 use Rattle.stories.specs.Sent.{Role, Ticks, Writes, Else, role, ticksBy, lineOf, ticks}
 use Rattle.demands.specs.Sending.Side.{SenderSide, fullOf, latchOf, View, its-tick, its-write, other, view}

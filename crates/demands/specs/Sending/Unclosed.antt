@@ -14,12 +14,12 @@ use Rattle.sdlc.specs.declared.Framed.{Framed}
 use Rattle.sdlc.specs.Sending.{framed, tickSdlc}
 use Rattle.chip.specs.declared.Chip.{Chip}
 use Rattle.chip.specs.Event.{Event, DataWrite, Transmit}
-use Rattle.frames.specs.Come.{flagTail, filledWith, opens}
-use Rattle.frames.specs.Come as come
-use Rattle.frames.specs.Start.{started, flagHead}
-use Rattle.frames.specs.Laws.Start.{head-tail}
-use Rattle.frames.specs.Laws.Unclosed.{unclosed, frame-closed, onesIn, bitsIn, Opened, in-flag, Goes}
-use Rattle.frames.specs.Laws.Unclosed.{goes, shuts, tick-goes, opened-filled, tail-passes}
+use Rattle.whole.specs.Come.{flagTail, filledWith, opens}
+use Rattle.whole.specs.Come as come
+use Rattle.whole.specs.Start.{started, flagHead}
+use Rattle.whole.specs.Laws.Start.{head-tail}
+use Rattle.whole.specs.Laws.Unclosed.{unclosed, frame-closed, onesIn, bitsIn, Opened, in-flag, Goes}
+use Rattle.whole.specs.Laws.Unclosed.{goes, shuts, tick-goes, opened-filled, tail-passes}
 use Rattle.stories.specs.Story.{Which, number, chan, happens, after}
 use Rattle.stories.specs.Sent.{ticksBy, lineOf, d6}
 use Rattle.demands.specs.Sending.Side.{good, good-heeded, SenderSide, side, sendingIn, sideOf}

@@ -17,9 +17,9 @@ use Rattle.channel.specs.Events.{transmitTick}
 use Rattle.chip.specs.declared.Chip.{Chip}
 use Rattle.chip.specs.Chip.{transmitCall}
 use Rattle.chip.specs.Event.{Event, ControlWrite, DataWrite, Transmit}
-use Rattle.frames.specs.Come.{opens}
-use Rattle.frames.specs.Come as come
-use Rattle.frames.specs.Laws.Latch.{dry-sets, tick-set, Went, opened, latched, tick-went}
+use Rattle.whole.specs.Come.{opens}
+use Rattle.whole.specs.Come as come
+use Rattle.whole.specs.Laws.Latch.{dry-sets, tick-set, Went, opened, latched, tick-went}
 use Rattle.stories.specs.Story.{Which, A, B, number, chan, happens, after, after-join}
 use Rattle.stories.specs.Sent.{d6, resetStatus}
 use Rattle.demands.specs.Sending.Side.{Heeded, good, good-heeded, SenderSide, sendingIn, sideOf}

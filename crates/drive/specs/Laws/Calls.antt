@@ -21,7 +21,7 @@ use Rattle.sdlc.specs.declared.Framer.{Framer}
 use Rattle.sdlc.specs.declared.Framed.{Framed}
 use Rattle.sdlc.specs.Sending.{notCounted, framer, tickSdlc, aborting, cutShort, abortedBy}
 use Rattle.sdlc.specs.Laws.Tick.{abort-cuts}
-use Rattle.frames.specs.Come.{good, filledWith}
+use Rattle.whole.specs.Come.{good, filledWith}
 use Rattle.sender.specs.declared.Sender.{Sender}
 use Rattle.sender.specs.declared.Sending.{Sending}
 use Rattle.sender.specs.declared.Ticked.{Ticked}

@@ -19,11 +19,11 @@ use Rattle.sdlc.specs.declared.Framer.{Framer}
 use Rattle.sdlc.specs.declared.Framed.{Framed}
 use Rattle.sdlc.specs.Sending.{notCounted, framer, framed, tickSdlc}
 use Rattle.sdlc.specs.Laws.Tick.{tick-flag, tick-abort, tick-chooses, next-mark, next-abort}
-use Rattle.frames.specs.Come.{good, flagTail, toCome}
-use Rattle.frames.specs.Stage.{Stage}
-use Rattle.frames.specs.Start.{frameEnded}
-use Rattle.frames.specs.Laws.Come.{moves}
-use Rattle.frames.specs.Laws.Start.{at-start, start-stage}
+use Rattle.whole.specs.Come.{good, flagTail, toCome}
+use Rattle.whole.specs.Stage.{Stage}
+use Rattle.whole.specs.Start.{frameEnded}
+use Rattle.whole.specs.Laws.Come.{moves}
+use Rattle.whole.specs.Laws.Start.{at-start, start-stage}
 use Rattle.sender.specs.Sender.{framerOf}
 use Rattle.chip.specs.declared.Chip.{Chip}
 use Rattle.chip.specs.Chip.{dataWriteCall}

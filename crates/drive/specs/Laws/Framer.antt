@@ -12,8 +12,8 @@ use Rattle.sdlc.specs.declared.LineUnit.the-variants.{Mark, Flag, Byte, Check, 
 use Rattle.sdlc.specs.declared.Framer.{Framer}
 use Rattle.sdlc.specs.declared.Framed.{Framed}
 use Rattle.sdlc.specs.Sending.{following, next, noBitLeft, goesOn, going, tickSdlc}
-use Rattle.frames.specs.Come.{good, filledWith}
-use Rattle.frames.specs.Laws.Latch.{tick-set}
+use Rattle.whole.specs.Come.{good, filledWith}
+use Rattle.whole.specs.Laws.Latch.{tick-set}
 use Rattle.sender.specs.declared.Ticked.{Ticked}
 use Rattle.sender.specs.Sender.{framerOf, framerIn}
 use Rattle.sender.specs.Good.{Good}

@@ -5,7 +5,7 @@ use Prim.Native.Nat.{ℕ, _+_, _-_, _≤_}
 use native.Mathlib.Omega.{arith}
 use lib.ListN.{length}
 use denote.Ref.{now}
-use Rattle.frames.specs.Come.{toCome}
+use Rattle.whole.specs.Come.{toCome}
 use Rattle.feed.specs.declared.Run.{Run}
 use Rattle.feed.specs.declared.Place.{Place}
 use Rattle.feed.specs.Feeding.{afterTicks, toTheEnd}

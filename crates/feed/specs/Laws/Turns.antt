@@ -23,10 +23,10 @@ use Rattle.sdlc.specs.declared.Framed.{Framed}
 use Rattle.sdlc.specs.Sending.{insertion, framer, byteOn, tickSdlc}
 use Rattle.sdlc.specs.Within.{byteLeft, byteRest, within, tickWithin}
 use Rattle.sdlc.specs.Laws.Within.{sdlc-within}
-use Rattle.frames.specs.Come.{good, toCome, filledWith}
-use Rattle.frames.specs.Stage.{Stage}
-use Rattle.frames.specs.Start.{frameEnded}
-use Rattle.frames.specs.Laws.Start.{ended-none, unended-some}
+use Rattle.whole.specs.Come.{good, toCome, filledWith}
+use Rattle.whole.specs.Stage.{Stage}
+use Rattle.whole.specs.Start.{frameEnded}
+use Rattle.whole.specs.Laws.Start.{ended-none, unended-some}
 use Rattle.feed.specs.declared.Bits.{Bits}
 use Rattle.feed.specs.declared.Run.{Run}
 use Rattle.feed.specs.declared.Place.{Place}

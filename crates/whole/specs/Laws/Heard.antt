@@ -6,7 +6,7 @@ use Rattle.entry.specs.declared.Entry.{Entry}
 use Rattle.sdlc.specs.declared.Addressing.{Addressing}
 use Rattle.sdlc.specs.declared.Listener.{Listener}
 use Rattle.sdlc.specs.Hearing.{hearSdlc}
-use Rattle.frames.specs.Heard.{handed, Final, final, before, hearAll}
+use Rattle.whole.specs.Heard.{handed, Final, final, before, hearAll}
 
 pub before-join : (xs ys : List Entry) (f : Final) → before xs (before ys f) ≡ before (xs ++ ys) f
 before-join xs ys f = ap (λ (l : List Entry). final (f .listener) l) (sym (append-assoc xs ys (f .got)))

@@ -25,9 +25,9 @@ use Rattle.sdlc.specs.Sending.{insertion, notCounted, framer, framed, startByte
 use Rattle.sdlc.specs.Within.{onesAfter}
 use Rattle.sdlc.specs.Laws.Tick.{tick-owed, tick-flag, tick-byte, tick-chooses, next-flag-full}
 use Rattle.sdlc.specs.Laws.Tick.{next-flag-empty, next-byte-full, next-byte-check}
-use Rattle.frames.specs.Come.{good, flagTail, filledWith}
-use Rattle.frames.specs.Heard.{flagEnds, onesOver, flagFree, lead}
-use Rattle.frames.specs.Laws.Deaf.{content-free}
+use Rattle.whole.specs.Come.{good, flagTail, filledWith}
+use Rattle.whole.specs.Heard.{flagEnds, onesOver, flagFree, lead}
+use Rattle.whole.specs.Laws.Deaf.{content-free}
 
 -- o ones and g bits behind the last flag: a flag ends only eight bits behind the one before it
 unfoldable pub unclosed : ℕ → ℕ → List Bool → Bool

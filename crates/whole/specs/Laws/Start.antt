@@ -13,9 +13,9 @@ use Rattle.line.specs.Insertion.{zeroIf, stuff}
 use Rattle.line.specs.Frame.{flagBits, contentOf, frame}
 use Rattle.shared.specs.Shared.{shared}
 use Rattle.sdlc.specs.declared.Framer.{Framer}
-use Rattle.frames.specs.Come.{flagTail, waiting, closed, toCome}
-use Rattle.frames.specs.Stage.{Stage, opening, inByte, inCheck, closing, cutOff}
-use Rattle.frames.specs.Start.{started, flagHead, frameEnded}
+use Rattle.whole.specs.Come.{flagTail, waiting, closed, toCome}
+use Rattle.whole.specs.Stage.{Stage, opening, inByte, inCheck, closing, cutOff}
+use Rattle.whole.specs.Start.{started, flagHead, frameEnded}
 
 pub head-length : (p : ℕ) → p ≤ 8 → length (flagHead p) ≡ p
 head-length p l = omega (arith, length-take p flagBits)

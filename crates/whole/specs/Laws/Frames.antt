@@ -28,13 +28,13 @@ use Rattle.sdlc.specs.declared.Listened.{Listened}
 use Rattle.sdlc.specs.Hearing.{chars, noChars, emptyDelay, fullDelay, content, heardSo, listener}
 use Rattle.sdlc.specs.Hearing.{listened, unheard, withOnes, shiftIn, lastBit, accept, push, closing}
 use Rattle.sdlc.specs.Hearing.{pastFlag, one, zeroBit, hearSdlc}
-use Rattle.frames.specs.Heard.{handed, Final, final, before, hearAll, Fresh, in-hunt, past-flag, lead}
-use Rattle.frames.specs.Frames.{ended, betweenFlags, framesOf, allEnded, Notes, no-more}
+use Rattle.whole.specs.Heard.{handed, Final, final, before, hearAll, Fresh, in-hunt, past-flag, lead}
+use Rattle.whole.specs.Frames.{ended, betweenFlags, framesOf, allEnded, Notes, no-more}
 use Rattle.line.specs.Frame.{withCheck}
-use Rattle.frames.specs.Frames.{one-more}
-use Rattle.frames.specs.Laws.Heard.{hear-join}
-use Rattle.frames.specs.Laws.Bytes.{assembled, assembled-whole, content-bytes, withCheck-below}
-use Rattle.frames.specs.Laws.Bytes.{withCheck-good}
+use Rattle.whole.specs.Frames.{one-more}
+use Rattle.whole.specs.Laws.Heard.{hear-join}
+use Rattle.whole.specs.Laws.Bytes.{assembled, assembled-whole, content-bytes, withCheck-below}
+use Rattle.whole.specs.Laws.Bytes.{withCheck-good}
 
 -- address search off
 abbrev pub unaddressed : ℕ → Addressing

@@ -20,8 +20,8 @@ use Rattle.sdlc.specs.Sending.{insertion, notCounted, framer, framed, flagBit, 
 use Rattle.sdlc.specs.Laws.Tick.{tick-owed, tick-flag, tick-byte, tick-check, tick-abort}
 use Rattle.sdlc.specs.Laws.Tick.{tick-chooses, next-flag-full, next-byte-full, next-byte-check}
 use Rattle.sdlc.specs.Laws.Tick.{next-check, next-abort}
-use Rattle.frames.specs.Come.{good, waiting, closed, toCome, filledWith}
-use Rattle.frames.specs.Stage.{sinceAfter, inTime, Stage, opening, inByte, inCheck, closing, cutOff}
+use Rattle.whole.specs.Come.{good, waiting, closed, toCome, filledWith}
+use Rattle.whole.specs.Stage.{sinceAfter, inTime, Stage, opening, inByte, inCheck, closing, cutOff}
 
 -- Bits
 

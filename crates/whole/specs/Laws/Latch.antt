@@ -14,7 +14,7 @@ use Rattle.sdlc.specs.declared.Framer.{Framer}
 use Rattle.sdlc.specs.declared.Framed.{Framed}
 use Rattle.sdlc.specs.Sending.{insertion, framer, following, next, going, tickSdlc}
 use Rattle.sdlc.specs.Laws.Tick.{tick-chooses, next-byte-check}
-use Rattle.frames.specs.Come.{good, opens}
+use Rattle.whole.specs.Come.{good, opens}
 
 -- The tick that finds the line dry
 

@@ -24,9 +24,9 @@ use Rattle.sdlc.specs.declared.Listened.{Listened}
 use Rattle.sdlc.specs.Hearing.{fullDelay, onesCounted, lastBit, spilled, oldestBit, wrong, accept}
 use Rattle.sdlc.specs.Hearing.{push, deaf, closing, one, zeroBit, hearSdlc}
 use Rattle.sdlc.specs.Within.{onesAfter}
-use Rattle.frames.specs.Heard.{handed, Final, hearAll, flagEnds, onesOver, flagFree, abortedLine}
-use Rattle.frames.specs.Heard.{lead, endMarks}
-use Rattle.frames.specs.Laws.Heard.{hear-join}
+use Rattle.whole.specs.Heard.{handed, Final, hearAll, flagEnds, onesOver, flagFree, abortedLine}
+use Rattle.whole.specs.Heard.{lead, endMarks}
+use Rattle.whole.specs.Laws.Heard.{hear-join}
 
 pub end-marks-join : (xs ys : List Entry) → endMarks (xs ++ ys) ≡ endMarks xs + endMarks ys
 end-marks-join [] ys = omega arith
