@@ -23,7 +23,7 @@ impl Channel {
     }
 
     // This channel after a step from that one: the status rule.
-    pub(crate) fn settled(mut self, was: Channel) -> Channel
+    pub fn settled(mut self, was: Channel) -> Channel
         ensures { λ r. ⌜ r ≡ settled was self ⌝ }
     {
         self.status = self.status.noticed(was.live(), self.live());

@@ -158,10 +158,10 @@ impl Chip {
     {
         if ch == 0 {
             let c = self.ending(v);
-            return c.in_a(c.a.control_write(Side::A, v));
+            return c.in_a(control::control_write(c.a, Side::A, v));
         }
         if ch == 1 {
-            return self.in_b(self.b.control_write(Side::B, v));
+            return self.in_b(control::control_write(self.b, Side::B, v));
         }
         self.refused(Refusal::Channel)
     }

@@ -1,9 +1,9 @@
--- `channel::Channel::commanded` meets its contract: each return by the facts on its way. Assumes nothing.
-use Rattle.channel.proofs.Branch.{tests}
+-- `control::commanded` meets its contract: each return by the facts on its way. Assumes nothing.
+use Rattle.control.proofs.Branch.{tests}
 use Rattle.channel.specs.Control.{commanded}
 use borrow.Author.Needs.{needs}
-use Rattle.channel.proofs.Channel.commanded.Statement.{statement}
-use Rattle.channel.proofs.Channel.commanded.Tie as tie
+use Rattle.control.proofs.commanded.Statement.{statement}
+use Rattle.control.proofs.commanded.Tie as tie
 
 sending-requires : tie.Need-sending-requires
 sending-requires c κs = search needs

@@ -1,9 +1,9 @@
--- `channel::Channel::write_wr0` meets its contract: each return by the facts on its way. Assumes nothing.
-use Rattle.channel.proofs.Branch.{tests}
+-- `control::write_wr0` meets its contract: each return by the facts on its way. Assumes nothing.
+use Rattle.control.proofs.Branch.{tests}
 use Rattle.channel.specs.Control.{writeWr0}
 use borrow.Author.Needs.{needs}
-use Rattle.channel.proofs.Channel.write_wr0.Statement.{statement}
-use Rattle.channel.proofs.Channel.write_wr0.Tie as tie
+use Rattle.control.proofs.write_wr0.Statement.{statement}
+use Rattle.control.proofs.write_wr0.Tie as tie
 
 command-in-requires : tie.Need-command-in-requires
 command-in-requires c κs = search needs

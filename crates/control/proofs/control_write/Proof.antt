@@ -1,9 +1,9 @@
--- `channel::Channel::control_write` meets its contract: each return by the facts on its way. Assumes nothing.
-use Rattle.channel.proofs.Branch.{tests}
+-- `control::control_write` meets its contract: each return by the facts on its way. Assumes nothing.
+use Rattle.control.proofs.Branch.{tests}
 use Rattle.channel.specs.Control.{controlWritten}
 use borrow.Author.Needs.{needs}
-use Rattle.channel.proofs.Channel.control_write.Statement.{statement}
-use Rattle.channel.proofs.Channel.control_write.Tie as tie
+use Rattle.control.proofs.control_write.Statement.{statement}
+use Rattle.control.proofs.control_write.Tie as tie
 
 write-wr0-requires : tie.Need-write-wr0-requires
 write-wr0-requires c κs = search needs

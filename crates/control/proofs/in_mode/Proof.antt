@@ -1,8 +1,8 @@
--- `channel::Channel::in_mode` meets its contract: each return by the facts on its way. Assumes nothing.
-use Rattle.channel.proofs.Branch.{tests}
+-- `control::in_mode` meets its contract: each return by the facts on its way. Assumes nothing.
+use Rattle.control.proofs.Branch.{tests}
 use borrow.Author.Needs.{needs}
-use Rattle.channel.proofs.Channel.in_mode.Statement.{statement}
-use Rattle.channel.proofs.Channel.in_mode.Tie as tie
+use Rattle.control.proofs.in_mode.Statement.{statement}
+use Rattle.control.proofs.in_mode.Tie as tie
 
 idle-requires : tie.Need-idle-requires
 idle-requires c κs = search needs

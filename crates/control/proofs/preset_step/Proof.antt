@@ -1,9 +1,9 @@
--- `channel::Channel::preset_step` meets its contract: each return by the facts on its way. Assumes nothing.
-use Rattle.channel.proofs.Branch.{tests}
+-- `control::preset_step` meets its contract: each return by the facts on its way. Assumes nothing.
+use Rattle.control.proofs.Branch.{tests}
 use Rattle.channel.specs.Control.{presetStep}
 use borrow.Author.Needs.{needs}
-use Rattle.channel.proofs.Channel.preset_step.Statement.{statement}
-use Rattle.channel.proofs.Channel.preset_step.Tie as tie
+use Rattle.control.proofs.preset_step.Statement.{statement}
+use Rattle.control.proofs.preset_step.Tie as tie
 
 preset-in-requires : tie.Need-preset-in-requires
 preset-in-requires c κs = search needs

@@ -1,9 +1,9 @@
--- `channel::Channel::set_register` meets its contract: each return by the facts on its way. Assumes nothing.
-use Rattle.channel.proofs.Branch.{tests}
+-- `control::set_register` meets its contract: each return by the facts on its way. Assumes nothing.
+use Rattle.control.proofs.Branch.{tests}
 use Rattle.channel.specs.Control.{setRegister}
 use borrow.Author.Needs.{needs}
-use Rattle.channel.proofs.Channel.set_register.Statement.{statement}
-use Rattle.channel.proofs.Channel.set_register.Tie as tie
+use Rattle.control.proofs.set_register.Statement.{statement}
+use Rattle.control.proofs.set_register.Tie as tie
 
 set-wr1-requires : tie.Need-set-wr1-requires
 set-wr1-requires c κs = search needs

@@ -1,9 +1,9 @@
--- `channel::Channel::set_wr4` meets its contract: each return by the facts on its way. Assumes nothing.
-use Rattle.channel.proofs.Branch.{tests}
+-- `control::set_wr4` meets its contract: each return by the facts on its way. Assumes nothing.
+use Rattle.control.proofs.Branch.{tests}
 use Rattle.channel.specs.Control.{setWr4}
 use borrow.Author.Needs.{needs}
-use Rattle.channel.proofs.Channel.set_wr4.Statement.{statement}
-use Rattle.channel.proofs.Channel.set_wr4.Tie as tie
+use Rattle.control.proofs.set_wr4.Statement.{statement}
+use Rattle.control.proofs.set_wr4.Tie as tie
 
 mode-of-requires : tie.Need-mode-of-requires
 mode-of-requires c κs = search needs

@@ -1,9 +1,9 @@
--- `channel::Channel::preset` meets its contract: each return by the facts on its way. Assumes nothing.
-use Rattle.channel.proofs.Branch.{tests}
+-- `control::preset` meets its contract: each return by the facts on its way. Assumes nothing.
+use Rattle.control.proofs.Branch.{tests}
 use Rattle.channel.specs.Control.{preset}
 use borrow.Author.Needs.{needs}
-use Rattle.channel.proofs.Channel.preset.Statement.{statement}
-use Rattle.channel.proofs.Channel.preset.Tie as tie
+use Rattle.control.proofs.preset.Statement.{statement}
+use Rattle.control.proofs.preset.Tie as tie
 
 preset-check-requires : tie.Need-preset-check-requires
 preset-check-requires c κs = search needs

@@ -1,8 +1,8 @@
--- `channel::Channel::set_wr3` meets its contract: each return by the facts on its way. Assumes nothing.
-use Rattle.channel.proofs.Branch.{tests}
+-- `control::set_wr3` meets its contract: each return by the facts on its way. Assumes nothing.
+use Rattle.control.proofs.Branch.{tests}
 use borrow.Author.Needs.{needs}
-use Rattle.channel.proofs.Channel.set_wr3.Statement.{statement}
-use Rattle.channel.proofs.Channel.set_wr3.Tie as tie
+use Rattle.control.proofs.set_wr3.Statement.{statement}
+use Rattle.control.proofs.set_wr3.Tie as tie
 
 enters-hunt-requires : tie.Need-enters-hunt-requires
 enters-hunt-requires c κs = search needs

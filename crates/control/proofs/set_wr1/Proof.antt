@@ -1,7 +1,7 @@
-use Rattle.channel.proofs.Branch.{tests}
+use Rattle.control.proofs.Branch.{tests}
 use borrow.Author.Needs.{needs}
-use Rattle.channel.proofs.Channel.set_wr1.Statement.{statement}
-use Rattle.channel.proofs.Channel.set_wr1.Tie as tie
+use Rattle.control.proofs.set_wr1.Statement.{statement}
+use Rattle.control.proofs.set_wr1.Tie as tie
 
 transmit-on-requires : tie.Need-transmit-on-requires
 transmit-on-requires c κs = search needs

@@ -1,9 +1,9 @@
--- `channel::Channel::command_step` meets its contract: each return by the facts on its way. Assumes nothing.
-use Rattle.channel.proofs.Branch.{tests}
+-- `control::command_step` meets its contract: each return by the facts on its way. Assumes nothing.
+use Rattle.control.proofs.Branch.{tests}
 use Rattle.channel.specs.Control.{commandStep}
 use borrow.Author.Needs.{needs}
-use Rattle.channel.proofs.Channel.command_step.Statement.{statement}
-use Rattle.channel.proofs.Channel.command_step.Tie as tie
+use Rattle.control.proofs.command_step.Statement.{statement}
+use Rattle.control.proofs.command_step.Tie as tie
 
 command-in-requires : tie.Need-command-in-requires
 command-in-requires c κs = search needs
