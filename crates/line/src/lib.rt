@@ -3,7 +3,7 @@ ghost use mathlib.Core.Path.{_≡_};
 ghost use Prim.Native.Nat.{_*_};
 ghost use Rattle.line.specs.Bits.{lowBits, oneIf};
 ghost use Rattle.line.specs.Check.{checkStep, checkOver};
-ghost use Rattle.line.specs.Insertion.{counted};
+ghost use Rattle.line.specs.Insertion.{counted, seen};
 ghost use Rattle.line.specs.Line.{noteFits};
 
 // x^16+x^12+x^5+1, the polynomial of SDLC.
@@ -50,22 +50,24 @@ pub struct Insertion {
     pub owed: bool,
 }
 
+// The ones in a row with this bit.
+fn ones_with(run: u8, b: bool) -> u16
+    ensures { λ r. ⌜ r ≡ seen run b ⌝ }
+{
+    if b { run as u16 + 1 } else { 0 }
+}
+
 impl Insertion {
     // A bit of content counted: after five ones in a row a 0 is owed, and the run starts again.
     pub fn counted(run: u8, b: bool) -> Insertion
         ensures { λ r. ⌜ r ≡ counted run b ⌝ }
     {
-        if b {
-            if run < 4 {
-                return Insertion {
-                    run: run + 1,
-                    owed: false,
-                };
-            }
+        let ones = ones_with(run, b);
+        if 5 <= ones {
             return Insertion { run: 0, owed: true };
         }
         Insertion {
-            run: 0,
+            run: ones as u8,
             owed: false,
         }
     }

@@ -7,11 +7,12 @@ use Prim.Native.Nat.{ℕ, zero, suc, _+_, _*_, _≤_, _<_}
 use native.Mathlib.Omega.{arith}
 use lib.Dec.{eqb, ltb}
 use lib.ListN.{length, length-append, replicate}
-use borrow.Author.Tests.{ne-eqb, eq-eqb}
+use borrow.Author.Tests.{ne-eqb, eq-eqb, le-ltb, lt-ltb}
 use Rattle.common.specs.Choice.{if_then_else_}
 use Rattle.common.specs.Tools.{ltb-elim}
 use Rattle.line.specs.Bits.{oneIf}
-use Rattle.line.specs.Insertion.{owes, runAfter, zeroIf, stuff, zeros, runOver, seen, kept, unstuff}
+use Rattle.line.specs.Insertion.{owes, runAfter, counted, zeroIf, stuff, zeros, runOver}
+use Rattle.line.specs.Insertion.{seen, kept, unstuff}
 
 pub stuff-join : (run : ℕ) (xs ys : List Bool) → stuff run (xs ++ ys) ≡ stuff run xs ++ stuff (runOver run xs) ys
 unfolding stuff runOver
@@ -102,3 +103,15 @@ calm-six run (false ∷ xs) ys c = calm-six 0 xs ys c
 -- no six ones in a row among the content and its zeros
 pub no-six : (bs xs ys : List Bool) → stuff 0 bs ≢ xs ++ (replicate 6 true ++ ys)
 no-six bs xs ys e = calm-six 0 xs ys (rw e at (stuff-calm 0 bs (omega arith)))
+
+-- the ones in a row with this bit decide both what is owed and the run
+
+pub counted-fifth : (run : ℕ) (b : Bool) → 5 ≤ seen run b
+    → counted run b ≡ record { run = 0; owed = true }
+counted-fifth run true h = rw (le-ltb run 4 (omega arith))
+counted-fifth run false h = absurd (omega arith)
+
+pub counted-below : (run : ℕ) (b : Bool) → seen run b < 5
+    → counted run b ≡ record { run = seen run b; owed = false }
+counted-below run true h = rw (lt-ltb run 4 (omega arith))
+counted-below run false h = refl
