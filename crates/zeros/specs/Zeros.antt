@@ -1,11 +1,14 @@
 -- What the zero count answers. Assumes nothing.
+use mathlib.Core.Bool.{Bool}
 use mathlib.Core.List.{List}
 use Prim.Native.Nat.{ℕ}
 use lib.ListN.{length}
 use Rattle.common.specs.Choice.{if_then_else_}
 use Rattle.common.specs.declared.Refusal.the-variants.{NoteLength}
 use Rattle.line.specs.Line.{noteFits}
+use Rattle.line.specs.Insertion.{zeros, runOver}
 use Rattle.line.specs.Frame.{zerosOf, ticksOf}
+use Rattle.zeros.specs.declared.Passed.{Passed}
 use Rattle.zeros.specs.declared.Counted.{Counted}
 use Rattle.zeros.specs.declared.Counted.the-variants.{Zeros, Refused}
 
@@ -16,3 +19,7 @@ countOf note = if noteFits (length note) then Zeros (zerosOf note) else Refused 
 -- 01: "ticks with both flags", of a note that has a line
 unfoldable pub lineTicks : List ℕ → ℕ
 lineTicks note = if noteFits (length note) then ticksOf note else 0
+
+-- bits of content gone by behind a run of ones: the run that they leave, and the zeros inserted into them
+abbrev pub passed : ℕ → List Bool → Passed
+passed run bits = record { run = runOver run bits; zeros = zeros run bits }
