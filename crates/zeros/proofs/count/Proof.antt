@@ -1,50 +1,62 @@
--- `zeros::count` meets its contract: the zeros so far and those of the bytes that remain, the check's two among them, are those of the content.
+-- `zeros::count` meets its contract: the bytes that remain, the check's two among them, make of the present tally what the content makes of none.
 -- Assumes nothing.
 use native.Mathlib.Omega.{arith}
 use mathlib.Core.Path.{_≡_, sym, ap, _∙_}
+use mathlib.Core.Bool.{Bool}
+use mathlib.Core.List.{List, [], _∷_}
 use borrow.Author.Needs.{needs}
-use native.Mathlib.Nat.{zero-add}
-use Prim.Native.Nat.{_+_, _-_, _/_, _%_, _<_}
+use Prim.Native.Nat.{ℕ, _+_, _-_, _/_, _%_, _≤_, _<_}
 use lib.Bits.{bitXor, xor-lt}
 use lib.ListN.{length, getD}
 use denote.Ref.{now}
-use Rattle.line.specs.Bits.{textBits}
+use Rattle.line.specs.Bits.{lowBits, textBits}
 use Rattle.line.specs.Check.{ones}
 use Rattle.line.specs.Insertion.{zeros}
-use Rattle.line.specs.Frame.{contentOf, zerosOf}
+use Rattle.line.specs.Frame.{contentOf}
 use Rattle.line.specs.Laws.Frame.{content-is, zeros-few}
 use Rattle.mirror.specs.Mirror.{mirroredByte}
 use Rattle.mirror.specs.Laws.{mirroredByte-lt, remaining, remaining-all, remaining-step, remaining-none}
-use Rattle.zeros.proofs.Laws.{byte-few, byte-step, bytes-two}
+use Rattle.zeros.specs.declared.Tally.{Tally}
+use Rattle.zeros.specs.Zeros.{tally, tallied}
+use Rattle.zeros.proofs.Laws.{tallied-byte, tallied-last, tallied-runs}
 use Rattle.zeros.proofs.count.Statement.{statement}
 use Rattle.zeros.proofs.count.Tie as tie
 
 abbrev Inv-loop : tie.InvT-loop
-Inv-loop note run₀ total₀ m₀ i₀ run total m i =
-    (total + zeros run (textBits 8 (remaining note i m)) ≡ zerosOf note) × (m < 65536)
+Inv-loop note t₀ m₀ i₀ t m i =
+    (tallied t (textBits 8 (remaining note i m)) ≡ tallied (tally 0 0) (contentOf note))
+    × ((t .closed ≤ t .ones) × ((t .ones < t .closed + 5) × (m < 65536)))
 
 abbrev μ-loop : tie.MeasureT-loop
-μ-loop note run₀ total₀ m₀ i₀ run total m i = length note - i
+μ-loop note t₀ m₀ i₀ t m i = length note - i
+
+-- the closed fives of a part of a note are no more than those of the note
+few : (note : List ℕ) (t : Tally) (bits : List Bool) → length note ≤ 2048
+    → tallied t bits ≡ tallied (tally 0 0) (contentOf note) → t .closed ≤ 16400
+few note t bits h e = omega (arith, ap (λ (x : Tally). x .closed) e, zeros-few note)
+
+-- behind the note and the check's first byte its last one remains
+last-byte : (note : List ℕ) (t : Tally) (i m : ℕ) → tallied t (textBits 8 (remaining note i m)) ≡ tallied (tally 0 0) (contentOf note)
+    → length note ≤ i → m < 65536
+    → tallied (tallied t (lowBits 8 (bitXor m ones % 256))) (textBits 8 (bitXor m ones / 256 ∷ [])) ≡ tallied (tally 0 0) (contentOf note)
+last-byte note t i m e h l =
+    sym (tallied-byte t (bitXor m ones % 256) (bitXor m ones / 256 ∷ []))
+    ∙ (rw (remaining-none note i m h l) at e)
 
 loop-holds : tie.Need-loop-holds Inv-loop μ-loop
 loop-holds c =
     let note = now (c .before .args .note) in
-    let all : textBits 8 (remaining note 0 ones) ≡ contentOf note =
-    ap (textBits 8) (remaining-all note) ∙ sym (content-is note) in
-    (zero-add _ ∙ ap (zeros 0) all, omega arith)
+    (ap (tallied (tally 0 0)) (ap (textBits 8) (remaining-all note) ∙ sym (content-is note)), (omega arith, (omega arith, omega arith)))
 
 shared-slice-read-v : tie.Need-shared-slice-read-v Inv-loop μ-loop
 shared-slice-read-v c = omega arith
 
 count-byte-requires : tie.Need-count-byte-requires Inv-loop μ-loop
-count-byte-requires c κs = search needs
-
-add-total : tie.Need-add-total Inv-loop μ-loop
-add-total c =
-    let l = c .before .before .before .before .loop in
-    let s = c .before .before .before .before .before .before in
-    let k = c .before .count-byte in
-    omega (arith, s .pre, l .inv .0, zeros-few (now (s .args .note)), byte-few (k .result) _ _ (k .ensures))
+count-byte-requires c κs =
+    let l = c .before .before .loop in
+    let s = c .before .before .before .before in
+    let n = few (now (s .args .note)) (l .t) (textBits 8 (remaining (now (s .args .note)) (l .i) (l .m))) (s .pre) (l .inv .0) in
+    (omega (arith, l .inv .1 .0), (omega (arith, l .inv .1 .1 .0), omega (arith, l .inv .1 .1 .0)))
 
 mirrored-byte-requires : tie.Need-mirrored-byte-requires Inv-loop μ-loop
 mirrored-byte-requires c κs = search needs
@@ -57,56 +69,54 @@ loop-less c = omega arith
 
 loop-again : tie.Need-loop-again Inv-loop μ-loop
 loop-again c =
-    let l = c .before .before .before .before .before .loop in
-    let note = now (c .before .before .before .before .before .before .before .args .note) in
+    let l = c .before .before .before .before .loop in
+    let note = now (c .before .before .before .before .before .before .args .note) in
     let v = getD note (l .i) 0 in
-    let k = c .before .before .count-byte in
-    let m = c .mirrored-byte .ensures in
-    let left = remaining-step note (l .i) (l .m) (c .before .before .before .before .loop-test .taken) in
     let rest = remaining note (l .i + 1) (mirroredByte (l .m) v) in
-    let e = byte-step (l .run) v rest in
-    let all = rw left at (l .inv .0) in
-    (rw (k .ensures, m) (omega (arith, e, all)), rw m (mirroredByte-lt (l .m) v))
+    let all = rw (remaining-step note (l .i) (l .m) (c .before .before .before .loop-test .taken)) at (l .inv .0) in
+    let on = sym (tallied-byte (l .t) v rest) ∙ all in
+    let runs = tallied-runs (l .t) (lowBits 8 v) (l .inv .1 .1 .0) in
+    rw (c .before .count-byte .ensures, c .mirrored-byte .ensures)
+    (on, (runs .0, (runs .1, mirroredByte-lt (l .m) v)))
 
 cast-count-byte : tie.Need-cast-count-byte Inv-loop μ-loop
 cast-count-byte c = omega arith
 
 count-byte-requires-2 : tie.Need-count-byte-requires-2 Inv-loop μ-loop
-count-byte-requires-2 c κs = search needs
+count-byte-requires-2 c κs =
+    let l = c .before .loop in
+    let s = c .before .before .before in
+    let n = few (now (s .args .note)) (l .t) (textBits 8 (remaining (now (s .args .note)) (l .i) (l .m))) (s .pre) (l .inv .0) in
+    (omega (arith, l .inv .1 .0), (omega (arith, l .inv .1 .1 .0), omega (arith, l .inv .1 .1 .0)))
 
 cast-count-byte-2 : tie.Need-cast-count-byte-2 Inv-loop μ-loop
 cast-count-byte-2 c =
     let l = c .before .before .loop in
-    omega (arith, xor-lt 16 (l .m) 65535 (l .inv .1) (omega arith))
+    omega (arith, xor-lt 16 (l .m) 65535 (l .inv .1 .1 .1) (omega arith))
 
 count-byte-requires-3 : tie.Need-count-byte-requires-3 Inv-loop μ-loop
-count-byte-requires-3 c κs = search needs
-
-add-result : tie.Need-add-result Inv-loop μ-loop
-add-result c =
-    let l = c .before .before .before .before .loop in
-    let s = c .before .before .before .before .before .before in
-    let k = c .before .before .count-byte2 in
-    omega (arith, s .pre, l .inv .0, zeros-few (now (s .args .note)), byte-few (k .result) _ _ (k .ensures))
-
-add-result-2 : tie.Need-add-result-2 Inv-loop μ-loop
-add-result-2 c =
-    let l = c .before .before .before .before .before .loop in
-    let s = c .before .before .before .before .before .before .before in
-    let j = c .before .before .before .count-byte2 in
-    let k = c .before .before .count-byte3 in
-    omega (arith, s .pre, l .inv .0, zeros-few (now (s .args .note)), byte-few (j .result) _ _ (j .ensures), byte-few (k .result) _ _ (k .ensures))
+count-byte-requires-3 c κs =
+    let l = c .before .before .loop in
+    let s = c .before .before .before .before in
+    let note = now (s .args .note) in
+    let check = bitXor (l .m) ones in
+    let t = tallied (l .t) (lowBits 8 (check % 256)) in
+    let runs = tallied-runs (l .t) (lowBits 8 (check % 256)) (l .inv .1 .1 .0) in
+    let last = last-byte note (l .t) (l .i) (l .m) (l .inv .0) (c .before .loop-test .left) (l .inv .1 .1 .1) in
+    let n = few note t (textBits 8 (check / 256 ∷ [])) (s .pre) last in
+    rw (c .count-byte2 .ensures) (runs .0, (runs .1, omega (arith, n, runs .1)))
 
 returns : tie.Need-returns Inv-loop μ-loop
 returns c =
-    let l = c .before .before .before .before .before .loop in
-    let note = now (c .before .before .before .before .before .before .before .args .note) in
-    let j = c .before .before .before .count-byte2 in
-    let k = c .before .before .count-byte3 in
+    let l = c .before .before .before .before .loop in
+    let note = now (c .before .before .before .before .before .before .args .note) in
     let check = bitXor (l .m) ones in
-    let all = rw (remaining-none note (l .i) (l .m) (c .before .before .before .before .loop-test .left) (l .inv .1)) at (l .inv .0) in
-    let two = bytes-two (l .run) (check % 256) (check / 256) in
-    rw (k .ensures, j .ensures) (omega (arith, all, two))
+    let t = tallied (l .t) (lowBits 8 (check % 256)) in
+    let all = last-byte note (l .t) (l .i) (l .m) (l .inv .0) (c .before .before .before .loop-test .left) (l .inv .1 .1 .1) in
+    let end : tallied t (lowBits 8 (check / 256)) ≡ tallied (tally 0 0) (contentOf note) =
+    sym (tallied-last t (check / 256)) ∙ all in
+    rw (c .before .count-byte3 .ensures, c .before .before .count-byte2 .ensures)
+    (omega (arith, ap (λ (x : Tally). x .closed) end))
 
 pub count-spec : {M : Type 1} → statement M
 count-spec =
@@ -117,7 +127,6 @@ count-spec =
     loop-holds
     shared-slice-read-v
     count-byte-requires
-    add-total
     mirrored-byte-requires
     add-i
     loop-less
@@ -126,6 +135,4 @@ count-spec =
     count-byte-requires-2
     cast-count-byte-2
     count-byte-requires-3
-    add-result
-    add-result-2
     returns)
