@@ -1,8 +1,9 @@
 /* Rounds of one job, done by plain C (1), by the product (2), by both in turn (3), or left undone (0). Standard input: the job (t transmit ticks,
-   r receive ticks, T and R the same of both channels in turn, s a note sent, l a line written; a and z the check's advance over zero bytes by
+   r receive ticks, T and R the same of both channels in turn, s a note sent, l a line written; c the zeros of a note counted and p the ticks of
+   the largest list of such notes, C and P the same beside C that lays the lines out first; a and z the check's advance over zero bytes by
    halves and byte by byte, j a body's check joined to a heading's, w the check of both worked out whole), who, the note's kind (0 mixed, 1 FF,
-   2 00; of a and z the polynomial, 0 SDLC's, 1 the other) and length, and the rounds. Prints for C and for the product a sum over all that came out and the best round's nanoseconds, and then how many
-   ticks or line bits a round has. */
+   2 00; of a and z the polynomial, 0 SDLC's, 1 the other) and length, and the rounds. Prints for C and for the product a sum over all that came
+   out and the best round's nanoseconds, and then how many ticks, line bits or note bits a round has. */
 #include "station.h"
 #include "line.h"
 #include "joining.h"
@@ -15,12 +16,14 @@ extern size sio_transmit(const u8 *note, size n, u8 *out, size len, size ticks, 
 extern size sio_receive(const u8 *line, size n, u8 *out, size len, size ticks, _Bool both);
 extern size sio_send(const u8 *note, size n, size *told, size told_len, size rounds);
 extern size sio_write_line(const u8 *note, size note_len, u8 *out, size out_len, size at);
+extern size sio_zeros_of(const u8 *note, size n);
+extern size sio_page_ticks(const u8 *list, size n);
 extern size sio_advance(u16 p, u16 r, size k);
 extern size sio_check_text(u16 p, u16 r, const u8 *text, size n);
 extern size sio_check_of(const u8 *text, size n);
 extern size sio_joined(u16 heading, u16 body, size k);
 
-enum { LINE = 20000, TICKS = 65536, NOTES = 4, CHECKS = 16 };
+enum { LINE = 20000, TICKS = 65536, NOTES = 4, CHECKS = 16, LIST = 65535 };
 
 /* RR0 and RR1 of both channels. */
 static size state(const struct chip *c) {
@@ -102,7 +105,7 @@ __attribute__((noinline)) static size c_send(const u8 *note, size n, size *told,
     return state(&c);
 }
 
-static u8 note[LONGEST], line[LINE], out[TICKS], zeros[LONGEST];
+static u8 note[LONGEST], line[LINE], out[TICKS], zeros[LONGEST], list[LIST];
 static u16 heading, body;                                                 /* the checks of the note's first bytes and of the rest */
 
 /* One check, from the heading's with r in it. */
@@ -131,8 +134,26 @@ static size job(char what, int who, int kind, size n, size bits, size *told) {
     case 'r': case 'R': return who == 1 ? c_receive(line, bits, out, TICKS, TICKS, both) : sio_receive(line, bits, out, TICKS, TICKS, both);
     case 's': return who == 1 ? c_send(note, n, told, NOTES) : sio_send(note, n, told, 2, NOTES);
     case 'a': case 'z': case 'j': case 'w': return check_jobs(what, who, kind, n);
+    case 'c': return who == 1 ? zeros_counted(note, n) : sio_zeros_of(note, n);
+    case 'C': return who == 1 ? zeros_laid(note, n) : sio_zeros_of(note, n);
+    case 'p': case 'P': return who == 1 ? page_ticks(list, LIST, what == 'P') : sio_page_ticks(list, LIST);
     default: return who == 1 ? write_line(note, n, out, LINE, 3) : sio_write_line(note, n, out, LINE, 3);
     }
+}
+
+/* The largest list of copies of the note, the last as long as there is room; gives the notes' bits. */
+static size fill_list(size n) {
+    size bits = 0;
+    list[0] = 1;
+    for (size i = 1, k; i < LIST; i += 2 + k) {
+        size left = LIST - i - 2;
+        k = left < n + 3 ? left : n;
+        list[i] = k >> 8;
+        list[i + 1] = k;
+        for (size j = 0; j < k; j++) list[i + 2 + j] = note[j % n];
+        bits += 8 * k;
+    }
+    return bits;
 }
 
 static long now(void) {
@@ -150,7 +171,8 @@ int main(void) {
     for (size i = 0; i < n; i++) note[i] = kind == 0 ? (u8)(i * 167 + 13) : kind == 1 ? 0xFF : 0;
     size zeros = write_line(note, n, line, LINE, 0), bits = zeros + 8 * (n + 2) + 8;      /* no closing flag: the next opening one closes the frame */
     _Bool checks = what == 'a' || what == 'z' || what == 'j' || what == 'w';
-    size units = what == 's' ? NOTES * (bits + 8) : what == 'l' ? bits + 8 : checks ? CHECKS : TICKS;
+    _Bool counts = what == 'c' || what == 'C', pages = what == 'p' || what == 'P';
+    size units = what == 's' ? NOTES * (bits + 8) : what == 'l' ? bits + 8 : checks ? CHECKS : counts ? 8 * n : pages ? fill_list(n) : TICKS;
     if (checks && n < PRINTED) return 1;
     for (size r = 0; r < rounds; r++) {
         if (checks) {
@@ -169,6 +191,7 @@ int main(void) {
             for (size i = 0; who == 3 && r == 0 && i < TICKS; i++) sum[k] = sum[k] * 31 + out[i];
         }
         note[r % n] ^= 1;
+        list[3 + r % n] ^= 1;
     }
     printf("%lu %lu %ld %ld %lu\n", sum[1], sum[2], best[1], best[2], units);
     return 0;
