@@ -1,0 +1,177 @@
+-- Laws of the layout by tables: by the right ones, where there is room for the frame, the frame is what
+-- is laid out, and nothing behind it is touched. Assumes nothing.
+use mathlib.Core.Path.{_≡_, refl, sym, ap, ap₂, _∙_}
+use mathlib.Core.Bool.{Bool}
+use mathlib.Core.List.{List, [], _∷_, _++_, append-assoc}
+use Prim.Native.Nat.{ℕ, zero, suc, _+_, _-_, _*_, _≤_, _<_}
+use native.Mathlib.Nat.{add-zero, zero-add}
+use native.Mathlib.Omega.{arith}
+use lib.ListN.{length, length-append, drop}
+use lib.Seq.{sets, sets-eq, length-sets}
+use Rattle.line.specs.Bits.{lowBits, textBits, cells}
+use Rattle.line.specs.Insertion.{stuff, runOver}
+use Rattle.line.specs.Frame.{flagBits, contentOf, withCheck, frame, zerosOf, ticksOf}
+use Rattle.line.specs.Laws.Bits.{lowBits-length, cells-length}
+use Rattle.line.specs.Laws.Insertion.{stuff-join, stuff-length, runOver-lt}
+use Rattle.line.specs.Laws.Frame.{content-is, content-length, ticks-are}
+use Rattle.pen.specs.Pen.{flagPut}
+use Rattle.pen.specs.Laws.{cells-sets, flag-fits}
+use Rattle.table.specs.Table.{checkTable}
+use Rattle.lookup.specs.Laws.{withLookup-is}
+use Rattle.stamp.specs.Stamp.{sentAs, runIn, stampTable, fourTable}
+use Rattle.bytewise.specs.Bytewise.{Plate, plate, pressAt, byteStamped}
+use Rattle.bytewise.specs.Laws.{byte-at, byte-run, byte-size, byte-line}
+use Rattle.tabled.specs.Tabled.{bytesStamped, contentStamped, frameStamped}
+
+-- Bytes by the right tables
+
+abbrev bytesPut : Plate → List ℕ → Plate
+bytesPut s vs = bytesStamped stampTable fourTable s vs
+
+-- the bits of bytes behind the press, with their zeros
+abbrev widthOf : Plate → List ℕ → List Bool
+widthOf s vs = stuff (runIn (s .press .last)) (textBits 8 vs)
+
+module _ (s : Plate) (v : ℕ) (vs : List ℕ) (few : runIn (s .press .last) < 5)
+    (fits : s .press .at + length (widthOf s (v ∷ vs)) + 8 ≤ length (s .buffer)) where
+  abbrev run : ℕ
+  run = runIn (s .press .last)
+
+  abbrev put : Plate
+  put = byteStamped stampTable fourTable s v
+
+  both : widthOf s (v ∷ vs) ≡ sentAs run v ++ stuff (runOver run (lowBits 8 v)) (textBits 8 vs)
+  unfolding textBits
+  both = stuff-join run (lowBits 8 v) (textBits 8 vs)
+
+  wide : length (widthOf s (v ∷ vs))
+      ≡ length (sentAs run v) + length (stuff (runOver run (lowBits 8 v)) (textBits 8 vs))
+  wide =
+      ap length both ∙ length-append (sentAs run v) (stuff (runOver run (lowBits 8 v)) (textBits 8 vs))
+
+  -- a byte and a flag behind it have the room that is asked for a byte
+  room : 12 ≤ length (s .buffer) - s .press .at
+  room = omega (arith, wide, stuff-length run (lowBits 8 v), lowBits-length 8 v)
+
+  next-few : runIn (put .press .last) < 5
+  next-few = rw (byte-run s v few room) (runOver-lt run (lowBits 8 v) few)
+
+  next-width : put .press .at + length (widthOf put vs) ≡ s .press .at + length (widthOf s (v ∷ vs))
+  next-width = rw (byte-run s v few room) (omega (arith, byte-at s v few room, wide))
+
+  next-fits : put .press .at + length (widthOf put vs) + 8 ≤ length (put .buffer)
+  next-fits = omega (arith, next-width, byte-size s v few room)
+
+  next-line : (next : List Bool) → 4 ≤ length next
+      → sets (put .buffer) (put .press .at) (cells (widthOf put vs ++ next))
+      ≡ sets (s .buffer) (s .press .at) (cells (widthOf s (v ∷ vs) ++ next))
+  next-line next h =
+      let rest = widthOf put vs in
+      byte-line s v few room (rest ++ next) (omega (arith, length-append rest next))
+      ∙ ap (λ (l : List Bool). sets (s .buffer) (s .press .at) (cells l))
+      (rw (byte-run s v few room, both) (sym (append-assoc (sentAs run v) (stuff (runOver run (lowBits 8 v)) (textBits 8 vs)) next)))
+
+width-none : (s : Plate) → widthOf s [] ≡ []
+unfolding textBits stuff
+width-none s = refl
+
+bytes-at : (s : Plate) (vs : List ℕ) → runIn (s .press .last) < 5
+    → s .press .at + length (widthOf s vs) + 8 ≤ length (s .buffer)
+    → bytesPut s vs .press .at ≡ s .press .at + length (widthOf s vs)
+unfolding bytesStamped
+bytes-at s [] few fits = rw (width-none s) (sym (add-zero (s .press .at)))
+bytes-at s (v ∷ vs) few fits =
+    let t = byteStamped stampTable fourTable s v in
+    bytes-at t vs (next-few s v vs few fits) (next-fits s v vs few fits) ∙ next-width s v vs few fits
+
+bytes-size : (s : Plate) (vs : List ℕ) → runIn (s .press .last) < 5
+    → s .press .at + length (widthOf s vs) + 8 ≤ length (s .buffer)
+    → length (bytesPut s vs .buffer) ≡ length (s .buffer)
+unfolding bytesStamped
+bytes-size s [] few fits = refl
+bytes-size s (v ∷ vs) few fits =
+    let t = byteStamped stampTable fourTable s v in
+    bytes-size t vs (next-few s v vs few fits) (next-fits s v vs few fits)
+    ∙ byte-size s v few (room s v vs few fits)
+
+bytes-line : (s : Plate) (vs : List ℕ) → runIn (s .press .last) < 5
+    → s .press .at + length (widthOf s vs) + 8 ≤ length (s .buffer)
+    → (next : List Bool) → 4 ≤ length next
+    → sets (bytesPut s vs .buffer) (bytesPut s vs .press .at) (cells next)
+    ≡ sets (s .buffer) (s .press .at) (cells (widthOf s vs ++ next))
+unfolding bytesStamped
+bytes-line s [] few fits next h = rw (width-none s)
+bytes-line s (v ∷ vs) few fits next h =
+    let t = byteStamped stampTable fourTable s v in
+    bytes-line t vs (next-few s v vs few fits) (next-fits s v vs few fits) next h
+    ∙ next-line s v vs few fits next h
+
+-- Flag, content, flag
+
+module _ (buffer note : List ℕ) (fits : ticksOf note ≤ length buffer) where
+  abbrev opening : List ℕ
+  opening = sets buffer 0 (cells flagBits)
+
+  abbrev start : Plate
+  start = plate opening (pressAt 8 0)
+
+  abbrev inner : List Bool
+  inner = stuff 0 (contentOf note)
+
+  abbrev content : Plate
+  content = contentStamped checkTable stampTable fourTable buffer note
+
+  width-is : widthOf start (withCheck note) ≡ inner
+  width-is = ap (stuff 0) (sym (content-is note))
+
+  long : length inner ≡ 8 * (length note + 2) + zerosOf note
+  long = omega (arith, stuff-length 0 (contentOf note), content-length note)
+
+  start-fits : 8 + length (widthOf start (withCheck note)) + 8 ≤ length opening
+  start-fits =
+      omega (arith, ap length width-is, long, ticks-are note, length-sets buffer 0 (cells flagBits))
+
+  -- the content behind the opening flag
+  content-put : content ≡ bytesPut start (withCheck note)
+  unfolding contentStamped
+  content-put =
+      rw (flag-fits buffer 0 (omega (arith, ticks-are note)))
+      (ap (bytesPut start) (withLookup-is note))
+
+  content-at : content .press .at ≡ 8 + length inner
+  content-at =
+      ap (λ (s : Plate). s .press .at) content-put
+      ∙ bytes-at start (withCheck note) (omega arith) start-fits
+      ∙ ap (λ (l : List Bool). 8 + length l) width-is
+
+  -- where the closing flag stands: the zeros inserted are what the content takes beyond its own bits
+  pub end-is : content .press .at ≡ 8 + 8 * (length note + 2) + zerosOf note
+  end-is = omega (arith, content-at, long)
+
+  content-size : length (content .buffer) ≡ length buffer
+  content-size =
+      ap (λ (s : Plate). length (s .buffer)) content-put
+      ∙ bytes-size start (withCheck note) (omega arith) start-fits
+      ∙ length-sets buffer 0 (cells flagBits)
+
+  -- the closing flag covers what the last byte stored of no account
+  content-line : sets (content .buffer) (content .press .at) (cells flagBits)
+      ≡ sets opening 8 (cells (inner ++ flagBits))
+  content-line =
+      ap (λ (s : Plate). sets (s .buffer) (s .press .at) (cells flagBits)) content-put
+      ∙ bytes-line start (withCheck note) (omega arith) start-fits flagBits (omega arith)
+      ∙ ap (λ (l : List Bool). sets opening 8 (cells (l ++ flagBits))) width-is
+
+  pub frame-fits : frameStamped checkTable stampTable fourTable buffer note
+      ≡ cells (frame note) ++ drop (ticksOf note) buffer
+  unfolding frameStamped
+  frame-fits =
+      let size : length (cells (frame note)) ≡ ticksOf note = cells-length (frame note) in
+      let all : 0 + length (cells (frame note)) ≤ length buffer = omega arith in
+      flag-fits (content .buffer) (content .press .at)
+      (omega (arith, content-at, content-size, long, ticks-are note))
+      ∙ content-line
+      ∙ sym (cells-sets buffer 0 flagBits (inner ++ flagBits))
+      ∙ sets-eq (cells (frame note)) buffer 0 all
+      ∙ ap (λ (x : ℕ). cells (frame note) ++ drop x buffer)
+      (zero-add (length (cells (frame note))) ∙ size)
