@@ -19,9 +19,9 @@ use Rattle.zeros.specs.declared.Counted.the-variants.{Zeros, Refused}
 use Rattle.writer.specs.Writer.{writeOf, writtenAt, bufferAfter}
 use Rattle.table.specs.Table.{checkTable}
 use Rattle.stamp.specs.Stamp.{stampTable, fourTable}
-use Rattle.tabled.specs.Tabled.{frameStamped}
-use Rattle.tabled.specs.Laws.{end-is, frame-fits}
-use Rattle.engine.specs.Engine.{zerosStamped, writeBy, leftBy}
+use Rattle.laid.specs.Laid.{frameStamped}
+use Rattle.laid.specs.Laws.{end-is, frame-fits}
+use Rattle.lent.specs.Lent.{zerosStamped, writeBy, leftBy}
 
 -- what a writer answers, and the whole buffer behind its call
 pub record Written : Type 0 where
@@ -46,7 +46,6 @@ module _ (note buffer : List ℕ) (at : ℕ) (room : ticksOf note ≤ length buf
   fits = omega (arith, length-drop at buffer)
 
   zeros-same : zerosStamped checkTable stampTable fourTable (drop at buffer) note ≡ zerosOf note
-  unfolding zerosStamped
   zeros-same = omega (arith, end-is (drop at buffer) note fits)
 
   line-same : take at buffer ++ frameStamped checkTable stampTable fourTable (drop at buffer) note

@@ -1,27 +1,26 @@
--- Laws of the layout by tables: by the right ones, where there is room for the frame, the frame is what
--- is laid out, and nothing behind it is touched. Assumes nothing.
-use mathlib.Core.Path.{_≡_, refl, sym, ap, ap₂, _∙_}
+-- Laws of content by tables: by the right ones, where there is room for it and a flag, it is the note's
+-- bits and its check's with their inserted zeros, once at least four cells more are stored behind it.
+-- Assumes nothing.
+use mathlib.Core.Path.{_≡_, refl, sym, ap, _∙_}
 use mathlib.Core.Bool.{Bool}
 use mathlib.Core.List.{List, [], _∷_, _++_, append-assoc}
-use Prim.Native.Nat.{ℕ, zero, suc, _+_, _-_, _*_, _≤_, _<_}
-use native.Mathlib.Nat.{add-zero, zero-add}
+use Prim.Native.Nat.{ℕ, _+_, _-_, _≤_, _<_}
+use native.Mathlib.Nat.{add-zero}
 use native.Mathlib.Omega.{arith}
-use lib.ListN.{length, length-append, drop}
-use lib.Seq.{sets, sets-eq, length-sets}
+use lib.ListN.{length, length-append}
+use lib.Seq.{sets}
 use Rattle.line.specs.Bits.{lowBits, textBits, cells}
 use Rattle.line.specs.Insertion.{stuff, runOver}
-use Rattle.line.specs.Frame.{flagBits, contentOf, withCheck, frame, zerosOf, ticksOf}
-use Rattle.line.specs.Laws.Bits.{lowBits-length, cells-length}
+use Rattle.line.specs.Frame.{contentOf, withCheck}
+use Rattle.line.specs.Laws.Bits.{lowBits-length}
 use Rattle.line.specs.Laws.Insertion.{stuff-join, stuff-length, runOver-lt}
-use Rattle.line.specs.Laws.Frame.{content-is, content-length, ticks-are}
-use Rattle.pen.specs.Pen.{flagPut}
-use Rattle.pen.specs.Laws.{cells-sets, flag-fits}
+use Rattle.line.specs.Laws.Frame.{content-is}
 use Rattle.table.specs.Table.{checkTable}
 use Rattle.lookup.specs.Laws.{withLookup-is}
 use Rattle.stamp.specs.Stamp.{sentAs, runIn, stampTable, fourTable}
 use Rattle.bytewise.specs.Bytewise.{Plate, plate, pressAt, byteStamped}
 use Rattle.bytewise.specs.Laws.{byte-at, byte-run, byte-size, byte-line}
-use Rattle.tabled.specs.Tabled.{bytesStamped, contentStamped, frameStamped}
+use Rattle.tabled.specs.Tabled.{bytesStamped, contentStamped}
 
 -- Bytes by the right tables
 
@@ -106,72 +105,42 @@ bytes-line s (v ∷ vs) few fits next h =
     bytes-line t vs (next-few s v vs few fits) (next-fits s v vs few fits) next h
     ∙ next-line s v vs few fits next h
 
--- Flag, content, flag
+-- A note's content
 
-module _ (buffer note : List ℕ) (fits : ticksOf note ≤ length buffer) where
-  abbrev opening : List ℕ
-  opening = sets buffer 0 (cells flagBits)
-
+module _ (buffer note : List ℕ)
+    (fits : 8 + length (stuff 0 (contentOf note)) + 8 ≤ length buffer) where
   abbrev start : Plate
-  start = plate opening (pressAt 8 0)
-
-  abbrev inner : List Bool
-  inner = stuff 0 (contentOf note)
+  start = plate buffer (pressAt 8 0)
 
   abbrev content : Plate
   content = contentStamped checkTable stampTable fourTable buffer note
 
-  width-is : widthOf start (withCheck note) ≡ inner
+  width-is : widthOf start (withCheck note) ≡ stuff 0 (contentOf note)
   width-is = ap (stuff 0) (sym (content-is note))
 
-  long : length inner ≡ 8 * (length note + 2) + zerosOf note
-  long = omega (arith, stuff-length 0 (contentOf note), content-length note)
+  start-fits : 8 + length (widthOf start (withCheck note)) + 8 ≤ length buffer
+  start-fits = omega (arith, ap length width-is)
 
-  start-fits : 8 + length (widthOf start (withCheck note)) + 8 ≤ length opening
-  start-fits =
-      omega (arith, ap length width-is, long, ticks-are note, length-sets buffer 0 (cells flagBits))
-
-  -- the content behind the opening flag
   content-put : content ≡ bytesPut start (withCheck note)
   unfolding contentStamped
-  content-put =
-      rw (flag-fits buffer 0 (omega (arith, ticks-are note)))
-      (ap (bytesPut start) (withLookup-is note))
+  content-put = ap (bytesPut start) (withLookup-is note)
 
-  content-at : content .press .at ≡ 8 + length inner
+  pub content-at : content .press .at ≡ 8 + length (stuff 0 (contentOf note))
   content-at =
       ap (λ (s : Plate). s .press .at) content-put
       ∙ bytes-at start (withCheck note) (omega arith) start-fits
       ∙ ap (λ (l : List Bool). 8 + length l) width-is
 
-  -- where the closing flag stands: the zeros inserted are what the content takes beyond its own bits
-  pub end-is : content .press .at ≡ 8 + 8 * (length note + 2) + zerosOf note
-  end-is = omega (arith, content-at, long)
-
-  content-size : length (content .buffer) ≡ length buffer
+  pub content-size : length (content .buffer) ≡ length buffer
   content-size =
       ap (λ (s : Plate). length (s .buffer)) content-put
       ∙ bytes-size start (withCheck note) (omega arith) start-fits
-      ∙ length-sets buffer 0 (cells flagBits)
 
-  -- the closing flag covers what the last byte stored of no account
-  content-line : sets (content .buffer) (content .press .at) (cells flagBits)
-      ≡ sets opening 8 (cells (inner ++ flagBits))
-  content-line =
-      ap (λ (s : Plate). sets (s .buffer) (s .press .at) (cells flagBits)) content-put
-      ∙ bytes-line start (withCheck note) (omega arith) start-fits flagBits (omega arith)
-      ∙ ap (λ (l : List Bool). sets opening 8 (cells (l ++ flagBits))) width-is
-
-  pub frame-fits : frameStamped checkTable stampTable fourTable buffer note
-      ≡ cells (frame note) ++ drop (ticksOf note) buffer
-  unfolding frameStamped
-  frame-fits =
-      let size : length (cells (frame note)) ≡ ticksOf note = cells-length (frame note) in
-      let all : 0 + length (cells (frame note)) ≤ length buffer = omega arith in
-      flag-fits (content .buffer) (content .press .at)
-      (omega (arith, content-at, content-size, long, ticks-are note))
-      ∙ content-line
-      ∙ sym (cells-sets buffer 0 flagBits (inner ++ flagBits))
-      ∙ sets-eq (cells (frame note)) buffer 0 all
-      ∙ ap (λ (x : ℕ). cells (frame note) ++ drop x buffer)
-      (zero-add (length (cells (frame note))) ∙ size)
+  -- what is stored next covers what the last byte stored of no account
+  pub content-line : (next : List Bool) → 4 ≤ length next
+      → sets (content .buffer) (content .press .at) (cells next)
+      ≡ sets buffer 8 (cells (stuff 0 (contentOf note) ++ next))
+  content-line next h =
+      ap (λ (s : Plate). sets (s .buffer) (s .press .at) (cells next)) content-put
+      ∙ bytes-line start (withCheck note) (omega arith) start-fits next h
+      ∙ ap (λ (l : List Bool). sets buffer 8 (cells (l ++ next))) width-is

@@ -10,7 +10,7 @@ use Rattle.line.specs.Check.{ones}
 use Rattle.lookup.specs.Lookup.{withLookup}
 use Rattle.lookup.specs.Laws.{lookup-step, lookup-none}
 use Rattle.bytewise.specs.Bytewise.{Plate, plate}
-use Rattle.tabled.specs.Tabled.{bytesStamped}
+use Rattle.tabled.specs.Tabled.{bytesStamped, contentStamped}
 use Rattle.tabled.proofs.put_content.Statement.{statement}
 use Rattle.tabled.proofs.put_content.Tie as tie
 
@@ -71,7 +71,7 @@ same-length c =
     c .before .before .put-byte3 .kept .0 ∙ b .put-byte2 .kept .0 ∙ b .before .before .before .loop .inv .1
 
 returns : tie.Need-returns Inv-loop μ-loop
-unfolding bytesStamped
+unfolding contentStamped bytesStamped
 returns c =
     let b = c .before .before .before .before .before .before .before in
     let l = b .before .before .before .loop in

@@ -1,5 +1,5 @@
--- What the byte engine answers, and what it leaves in the caller's buffer, by tables that are lent,
--- whatever they hold. Assumes nothing.
+-- What the writer by whole bytes answers, and what it leaves in the caller's buffer, by tables that are
+-- lent, whatever they hold. Assumes nothing.
 use mathlib.Core.List.{List, _++_}
 use Prim.Native.Nat.{ℕ, _+_, _-_, _*_}
 use lib.Dec.{ltb}
@@ -10,13 +10,13 @@ use Rattle.line.specs.Frame.{ticksOf}
 use Rattle.line.specs.Line.{noteFits}
 use Rattle.zeros.specs.declared.Counted.{Counted}
 use Rattle.zeros.specs.declared.Counted.the-variants.{Zeros, Refused}
-use Rattle.tabled.specs.Tabled.{contentStamped, frameStamped}
+use Rattle.laid.specs.Laid.{endStamped, frameStamped}
 
 module _ (checks stamps fours : List ℕ) where
   -- what the content takes, as it was laid out, beyond its own bits
-  unfoldable pub zerosStamped : List ℕ → List ℕ → ℕ
+  abbrev pub zerosStamped : List ℕ → List ℕ → ℕ
   zerosStamped buffer note =
-      contentStamped checks stamps fours buffer note .press .at - (8 + 8 * (length note + 2))
+      endStamped checks stamps fours buffer note - (8 + 8 * (length note + 2))
 
   -- the refusals of the first writer, in its order: "For a line: 6, then 8"
   unfoldable pub writeBy : List ℕ → List ℕ → ℕ → Counted

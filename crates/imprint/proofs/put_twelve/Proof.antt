@@ -1,8 +1,7 @@
--- `bytewise::put_stamp` meets its contract: three stores of four cells. Assumes nothing.
-use Rattle.bytewise.specs.Bytewise.{stampCells}
+-- `imprint::put_twelve` meets its contract: three stores of four cells. Assumes nothing.
 use borrow.Author.Needs.{needs}
-use Rattle.bytewise.proofs.put_stamp.Statement.{statement}
-use Rattle.bytewise.proofs.put_stamp.Tie as tie
+use Rattle.imprint.proofs.put_twelve.Statement.{statement}
+use Rattle.imprint.proofs.put_twelve.Tie as tie
 
 size-requires : tie.Need-size-requires
 size-requires c κs = search needs
@@ -32,22 +31,21 @@ same-length : tie.Need-same-length
 same-length c = search needs
 
 returns : tie.Need-returns
-unfolding stampCells
 returns c =
     let third = c .before .before in
     let second = third .before .before .before .before .before in
     let first = second .before .before .before .before .before in
     rw (
       third .put-four3 .ensures,
-      third .before .size3 .ensures .0,
+      third .before .size3 .ensures,
       second .put-four2 .ensures,
-      second .before .size2 .ensures .0,
+      second .before .size2 .ensures,
       first .put-four .ensures,
-      first .before .size .ensures .0,
+      first .before .size .ensures,
     )
 
-pub put-stamp-spec : {M : Type 1} → statement M
-put-stamp-spec =
+pub put-twelve-spec : {M : Type 1} → statement M
+put-twelve-spec =
     tie.close
     (tie.spec
     size-requires

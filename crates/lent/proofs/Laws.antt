@@ -14,7 +14,7 @@ use Rattle.line.specs.Line.{noteFits}
 use Rattle.line.specs.Laws.Frame.{ticks-are}
 use Rattle.zeros.specs.declared.Counted.the-variants.{Zeros, Refused}
 use Rattle.zeros.specs.Zeros.{lineTicks}
-use Rattle.engine.specs.Engine.{zerosStamped, writeBy}
+use Rattle.lent.specs.Lent.{zerosStamped, writeBy}
 
 module _ (checks stamps fours note out : List ℕ) (at : ℕ) where
   pub unfit-refused : noteFits (length note) ≡ false → writeBy checks stamps fours note out at ≡ Refused NoteLength

@@ -1,9 +1,9 @@
--- `tabled::lay_frame` meets its contract: flag, content, flag. Assumes nothing.
+-- `laid::lay_frame` meets its contract: flag, content, flag. Assumes nothing.
 use mathlib.Core.Path.{refl}
 use borrow.Author.Needs.{needs}
-use Rattle.tabled.specs.Tabled.{contentStamped, frameStamped}
-use Rattle.tabled.proofs.lay_frame.Statement.{statement}
-use Rattle.tabled.proofs.lay_frame.Tie as tie
+use Rattle.laid.specs.Laid.{endStamped, frameStamped}
+use Rattle.laid.proofs.lay_frame.Statement.{statement}
+use Rattle.laid.proofs.lay_frame.Tie as tie
 
 put-flag-requires : tie.Need-put-flag-requires
 put-flag-requires c κs = search needs
@@ -18,7 +18,7 @@ same-length : tie.Need-same-length
 same-length c = search needs
 
 returns : tie.Need-returns
-unfolding contentStamped frameStamped
+unfolding endStamped frameStamped
 returns c =
     let content = c .before .before .before .before .before .before .put-content .ensures in
     let opening = c .before .before .before .before .before .before .before .before .before .before .put-flag .ensures in

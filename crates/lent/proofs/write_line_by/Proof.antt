@@ -1,15 +1,16 @@
--- `engine::write_line_by` meets its contract: a refusal leaves the buffer alone, and the part that was lent comes back with the frame at its start.
+-- `lent::write_line_by` meets its contract: a refusal leaves the buffer alone, and the part that was lent comes back with the frame at its start.
 -- Assumes nothing.
 use mathlib.Core.Path.{refl, sym, _∙_}
 use mathlib.Core.List.{append-nil}
+use native.Mathlib.Omega.{arith}
 use lib.ListN.{length, drop}
 use denote.Ref.{now}
 use Rattle.line.specs.Laws.Line.{fits-few}
-use Rattle.tabled.specs.Tabled.{frameStamped}
-use Rattle.engine.proofs.Laws.{unfit-refused, test-said, short-refused, room-laid, place-inside, part-is, nothing-behind}
+use Rattle.laid.specs.Laid.{frameStamped}
+use Rattle.lent.proofs.Laws.{unfit-refused, test-said, short-refused, room-laid, place-inside, part-is, nothing-behind}
 use borrow.Author.Needs.{needs}
-use Rattle.engine.proofs.write_line_by.Statement.{statement}
-use Rattle.engine.proofs.write_line_by.Tie as tie
+use Rattle.lent.proofs.write_line_by.Statement.{statement}
+use Rattle.lent.proofs.write_line_by.Tie as tie
 
 note-fits-requires : tie.Need-note-fits-requires
 note-fits-requires c κs = search needs
@@ -29,45 +30,60 @@ returns c =
     let e = short-refused (now (a .checks)) (now (a .stamps)) (now (a .fours)) (now (a .note)) (now (a .out)) (a .at) (b .note-fits .ensures) fit (t ∙ c .if2 .taken) in
     rw e (refl, refl)
 
-sub-lay-line : tie.Need-sub-lay-line
-sub-lay-line c =
+add-least : tie.Need-add-least
+add-least c = search needs
+
+mul-least : tie.Need-mul-least
+mul-least c =
+    let b = c .before .before .before .before in
+    let few = fits-few (length (now (b .before .before .before .args .note))) (sym (b .note-fits .ensures) ∙ c .before .before .before .if1 .taken) in
+    omega (arith, few .1)
+
+add-least-2 : tie.Need-add-least-2
+add-least-2 c =
+    let b = c .before .before .before .before in
+    let few = fits-few (length (now (b .before .before .before .args .note))) (sym (b .note-fits .ensures) ∙ c .before .before .before .if1 .taken) in
+    omega (arith, few .1)
+
+sub-lay-frame : tie.Need-sub-lay-frame
+sub-lay-frame c =
     let b = c .before .before .before .before in
     let a = b .before .before .before .args in
     let fit = c .before .before .before .if1 .taken in
     let t = test-said (now (a .checks)) (now (a .stamps)) (now (a .fours)) (now (a .note)) (now (a .out)) (a .at) (b .note-fits .ensures) fit (c .before .before .room-from .ensures) (c .before .lacks-room .ensures) in
     place-inside (now (a .checks)) (now (a .stamps)) (now (a .fours)) (now (a .note)) (now (a .out)) (a .at) (t ∙ c .if2 .left)
 
-part-lay-line-start : tie.Need-part-lay-line-start
-part-lay-line-start c =
+part-lay-frame-start : tie.Need-part-lay-frame-start
+part-lay-frame-start c =
     let b = c .before .before .before .before in
     let a = b .before .before .before .args in
     let fit = c .before .before .before .if1 .taken in
     let t = test-said (now (a .checks)) (now (a .stamps)) (now (a .fours)) (now (a .note)) (now (a .out)) (a .at) (b .note-fits .ensures) fit (c .before .before .room-from .ensures) (c .before .lacks-room .ensures) in
     place-inside (now (a .checks)) (now (a .stamps)) (now (a .fours)) (now (a .note)) (now (a .out)) (a .at) (t ∙ c .if2 .left)
 
-part-lay-line-end : tie.Need-part-lay-line-end
-part-lay-line-end c = search needs
+part-lay-frame-end : tie.Need-part-lay-frame-end
+part-lay-frame-end c = search needs
 
-lay-line-requires : tie.Need-lay-line-requires
-lay-line-requires c κs =
-    let b = c .before .before .before .before .before in
-    let a = b .before .before .before .args in
-    fits-few (length (now (a .note))) (sym (b .note-fits .ensures) ∙ c .before .before .before .before .if1 .taken) .1
+lay-frame-requires : tie.Need-lay-frame-requires
+lay-frame-requires c κs = search needs
+
+room-from-requires-2 : tie.Need-room-from-requires-2
+room-from-requires-2 c κs = search needs
 
 same-length : tie.Need-same-length
 same-length c = search needs
 
 returns-2 : tie.Need-returns-2
 returns-2 c =
-    let d = c .before .before .before .before in
+    let d = c .before .before .before .before .before in
     let b = d .before .before .before .before in
     let a = b .before .before .before .args in
     let fit = d .before .before .before .if1 .taken in
     let t = test-said (now (a .checks)) (now (a .stamps)) (now (a .fours)) (now (a .note)) (now (a .out)) (a .at) (b .note-fits .ensures) fit (d .before .before .room-from .ensures) (d .before .lacks-room .ensures) in
-    let e = c .before .before .lay-line .ensures in
+    let e = c .before .before .before .lay-frame .ensures in
     let answer = room-laid (now (a .checks)) (now (a .stamps)) (now (a .fours)) (now (a .note)) (now (a .out)) (a .at) (b .note-fits .ensures) fit (t ∙ d .if2 .left) in
     let laid = frameStamped (now (a .checks)) (now (a .stamps)) (now (a .fours)) (drop (a .at) (now (a .out))) (now (a .note)) in
-    rw (answer, e .0, e .1, part-is (now (a .out)) (a .at), nothing-behind (now (a .out)) (a .at), append-nil laid) (refl, refl)
+    rw (answer, c .room-from2 .ensures, e .0, e .1, part-is (now (a .out)) (a .at), nothing-behind (now (a .out)) (a .at), append-nil laid) (refl, refl)
 
 returns-3 : tie.Need-returns-3
 returns-3 c =
@@ -83,10 +99,14 @@ write-line-by-spec =
     room-from-requires
     lacks-room-requires
     returns
-    sub-lay-line
-    part-lay-line-start
-    part-lay-line-end
-    lay-line-requires
+    add-least
+    mul-least
+    add-least-2
+    sub-lay-frame
+    part-lay-frame-start
+    part-lay-frame-end
+    lay-frame-requires
+    room-from-requires-2
     same-length
     returns-2
     returns-3)

@@ -1,4 +1,4 @@
--- `bytewise::lacks_cells` meets its contract: the bound below which a place has room, and the room from the place on. Assumes nothing.
+-- `imprint::lacks_cells` meets its contract: the bound below which a place has room, and the room from the place on. Assumes nothing.
 use mathlib.Core.Path.{_≡_, sym}
 use native.Mathlib.Omega.{arith}
 use Prim.Native.Nat.{_-_}
@@ -6,8 +6,8 @@ use borrow.Author.Tests.{le-ltb, lt-ltb}
 use lib.Dec.{ltb}
 use Rattle.common.specs.Tools.{ltb-elim}
 use borrow.Author.Needs.{needs}
-use Rattle.bytewise.proofs.lacks_cells.Statement.{statement}
-use Rattle.bytewise.proofs.lacks_cells.Tie as tie
+use Rattle.imprint.proofs.lacks_cells.Statement.{statement}
+use Rattle.imprint.proofs.lacks_cells.Tie as tie
 
 returns : tie.Need-returns
 returns c = sym (lt-ltb (c .before .args .len - c .before .args .at) 12 (omega arith))
