@@ -5,14 +5,14 @@ ghost use mathlib.Core.Path.{_≡_};
 ghost use Prim.Native.Nat.{_<_};
 ghost use Rattle.bytewise.specs.Bytewise.{plate, stampFor, byteStamped};
 
-// Where the next byte goes, and the stamp of the one before it, which says how many ones in a row it left.
+// Where the next byte goes, and the row of the stamps for it: 256 for each of the ones in a row before it.
 pub struct Press {
     pub at: usize,
-    pub last: u16,
+    pub row: usize,
 }
 
-// The stamps of five runs and 256 bytes.
-const STAMPS: usize = 1280;
+// Where the row of four ones begins, the last of five.
+const LAST_ROW: usize = 1024;
 
 fn wide(x: u8) -> usize
     ensures { λ r. ⌜ r ≡ x ⌝ }
@@ -28,12 +28,15 @@ fn size(x: u16) -> usize
     x as usize
 }
 
-// The stamp for a byte behind the last one.
-fn stamp_for(stamps: &[u16; 1280], last: u16, v: u8) -> u16
-    ensures { λ r. ⌜ r ≡ stampFor (now (stamps .entry)) last v ⌝ }
+// The stamp of a byte in a row.
+fn stamp_for(stamps: &[u16; 1280], row: usize, v: u8) -> u16
+    ensures { λ r. ⌜ r ≡ stampFor (now (stamps .entry)) row v ⌝ }
 {
-    let k = size(last / 256 % 8) * 256 + wide(v);
-    if k < STAMPS { stamps[k] } else { 0 }
+    if row <= LAST_ROW {
+        stamps[row + wide(v)]
+    } else {
+        0
+    }
 }
 
 // A byte of content with its inserted zeros, where there is room for any byte's cells.
@@ -45,10 +48,10 @@ pub fn put_byte(out: &mut [u8], stamps: &[u16; 1280], fours: &[u32; 16], p: Pres
     if lacks_cells(out.len(), at) {
         return p;
     }
-    let e = stamp_for(stamps, p.last, v);
+    let e = stamp_for(stamps, p.row, v);
     put_stamp(out, fours, at, e);
     Press {
         at: at + 8 + size(e / 8192),
-        last: e,
+        row: size(e / 256 % 8) * 256,
     }
 }

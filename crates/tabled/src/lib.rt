@@ -25,7 +25,7 @@ pub fn put_content(
     ensures { λ r. ⌜ r ≡ contentStamped (now (checks .entry)) (now (stamps .entry)) (now (fours .entry)) (now (out .entry)) (now (note .entry)) .press .at ⌝ }
     ensures { λ r. ⌜ now (out .exit) ≡ contentStamped (now (checks .entry)) (now (stamps .entry)) (now (fours .entry)) (now (out .entry)) (now (note .entry)) .buffer ⌝ }
 {
-    let mut q = Press { at: 8, last: 0 };
+    let mut q = Press { at: 8, row: 0 };
     let mut m = ONES;
     let mut i = 0;
     while i < note.len() {

@@ -44,15 +44,27 @@ add-t15 c =
     let room = ltb-false (length (now (s .args .out)) - at) 12 (sym (b .before .lacks-cells .ensures) ∙ b .if1 .left) in
     omega (arith, room, s .good .0 .0, s .good .0 .1, c .size .ensures .1)
 
+size-requires-2 : tie.Need-size-requires-2
+size-requires-2 c κs = search needs
+
+mul-t19 : tie.Need-mul-t19
+mul-t19 c = search needs
+
 same-length : tie.Need-same-length
 same-length c = search needs
 
 returns-2 : tie.Need-returns-2
 unfolding byteStamped
 returns-2 c =
-    let b = c .before .before .before .before .before .before in
+    let b = c .before .before .before .before .before .before .before in
     let room = sym (b .before .lacks-cells .ensures) ∙ b .if1 .left in
-    rw (room, c .before .before .before .put-stamp .ensures, c .size .ensures .0, c .before .before .before .before .before .stamp-for .ensures)
+    rw (
+      room,
+      c .before .before .before .before .put-stamp .ensures,
+      c .before .size .ensures .0,
+      c .size2 .ensures .0,
+      c .before .before .before .before .before .before .stamp-for .ensures,
+    )
     (refl, refl)
 
 pub put-byte-spec : {M : Type 1} → statement M
@@ -66,5 +78,7 @@ put-byte-spec =
     add-t9
     size-requires
     add-t15
+    size-requires-2
+    mul-t19
     same-length
     returns-2)
