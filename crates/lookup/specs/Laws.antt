@@ -71,8 +71,11 @@ withLookup-is note =
     let m = lookedOver checkTable ones note in
     let r : mirror 16 m ≡ checkOver sdlc ones (textBits 8 note) =
     rw mirror-ones at (lookedOver-is ones note (omega arith)) in
+    let small = lookedOver-lt ones note (omega arith) in
+    let k = bitXor m ones in
+    let high : k / 256 % 256 ≡ k / 256 = omega (arith, xor-lt 16 m ones small (omega arith)) in
     ap (λ (l : List ℕ). note ++ l)
-    (sym (mirror-bytes m (lookedOver-lt ones note (omega arith))) ∙ ap checkBytes r)
+    (ap (λ (x : ℕ). k % 256 ∷ x ∷ []) high ∙ sym (mirror-bytes m small) ∙ ap checkBytes r)
 
 -- As a loop meets it: a byte more, and none left
 

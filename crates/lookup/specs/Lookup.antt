@@ -18,7 +18,7 @@ lookedOver checks m (v ∷ vs) = lookedOver checks (lookedUp checks m v) vs
 
 -- "complemented, x^15 first": the check's two bytes, and a note followed by them
 abbrev pub sentCheck : ℕ → List ℕ
-sentCheck m = bitXor m ones % 256 ∷ bitXor m ones / 256 ∷ []
+sentCheck m = bitXor m ones % 256 ∷ bitXor m ones / 256 % 256 ∷ []
 
 unfoldable pub withLookup : List ℕ → ℕ → List ℕ → List ℕ
 withLookup checks m note = note ++ sentCheck (lookedOver checks m note)

@@ -59,28 +59,27 @@ cast-put-byte c = omega arith
 put-byte-requires-2 : tie.Need-put-byte-requires-2 Inv-loop μ-loop
 put-byte-requires-2 c κs = search needs
 
-high-byte-requires : tie.Need-high-byte-requires Inv-loop μ-loop
-high-byte-requires c κs = search needs
+cast-put-byte-2 : tie.Need-cast-put-byte-2 Inv-loop μ-loop
+cast-put-byte-2 c = omega arith
 
 put-byte-requires-3 : tie.Need-put-byte-requires-3 Inv-loop μ-loop
 put-byte-requires-3 c κs = search needs
 
 same-length : tie.Need-same-length Inv-loop μ-loop
 same-length c =
-    let b = c .before .before .before .before .before .before .before in
+    let b = c .before .before .before .before .before .before in
     c .before .before .put-byte3 .kept .0 ∙ b .put-byte2 .kept .0 ∙ b .before .before .before .loop .inv .1
 
 returns : tie.Need-returns Inv-loop μ-loop
 unfolding contentStamped bytesStamped
 returns c =
-    let b = c .before .before .before .before .before .before .before in
+    let b = c .before .before .before .before .before .before in
     let l = b .before .before .before .loop in
     let a = b .before .before .before .before .before .before .args in
     let last = c .before .before .put-byte3 .ensures in
-    let high = c .before .before .before .high-byte .ensures in
     let first = b .put-byte2 .ensures in
     let all = rw (lookup-none (now (a .checks)) (now (a .note)) (l .i) (l .m) (b .before .before .loop-test .left)) at (l .inv .0) in
-    rw (last .0, last .1, high, first .0, first .1)
+    rw (last .0, last .1, first .0, first .1)
     (ap (λ (s : Plate). s .press .at) all, ap (λ (s : Plate). s .buffer) all)
 
 pub put-content-spec : {M : Type 1} → statement M
@@ -98,7 +97,7 @@ put-content-spec =
     loop-again
     cast-put-byte
     put-byte-requires-2
-    high-byte-requires
+    cast-put-byte-2
     put-byte-requires-3
     same-length
     returns)
