@@ -52,3 +52,13 @@ nextLines between c (note ∷ notes) =
 abbrev pub allLine : Between → Chip → List (List ℕ) → List Bool
 allLine between c [] = []
 allLine between c (note ∷ notes) = noteLine c note ++ nextLines between (sentBy c note) notes
+
+-- A list as it is read; one that is refused changes nothing and sends nothing
+
+abbrev pub chipAfter : Between → Chip → Reading → Chip
+chipAfter between c (whole notes) = sentAll between c notes
+chipAfter between c (refuses k) = c
+
+abbrev pub lineAfter : Between → Chip → Reading → List Bool
+lineAfter between c (whole notes) = allLine between c notes
+lineAfter between c (refuses k) = []

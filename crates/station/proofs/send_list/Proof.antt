@@ -4,7 +4,8 @@ use denote.Ref.{now}
 use Rattle.notes.specs.NoteList.{readList}
 use Rattle.notes.specs.Laws.Reading.{scanned-refuses}
 use Rattle.report.specs.Report.{reported, rowsIn}
-use Rattle.station.specs.Station.{listSent, listedOf, chipAfter}
+use Rattle.listline.specs.ListLine.{chipAfter}
+use Rattle.station.specs.Station.{listSent, listedOf}
 use borrow.Author.Needs.{needs}
 use Rattle.station.proofs.send_list.Statement.{statement}
 use Rattle.station.proofs.send_list.Tie as tie
