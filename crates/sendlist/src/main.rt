@@ -1,6 +1,8 @@
 // Reads a note list from standard input, checks it, sends its notes through a chip, and prints for each its number, bytes, zeros inserted
-// and ticks; last the notes and the ticks in all. A bad list prints its refusal alone. All that matters is in the crate station.
+// and ticks; last the notes and the ticks in all. A bad list prints its refusal alone. Between two notes it sends a closing and an opening flag, and
+// with the word --shared one flag that is both. All that matters is in the crate station.
 use chip::Chip;
+use flags::Between;
 use station::Listed;
 use station::ROW;
 ghost use mathlib.Core.Path.{_≡_};
@@ -117,12 +119,37 @@ fn tell(out: &mut [u8], rows: &[usize], told: Listed) {
     }
 }
 
-fn main() {
+// A list through a reset chip.
+fn sent(list: &[u8], rows: &mut [usize], between: Between) -> Listed {
+    let s = station::send_list(Chip::reset(), list, rows, between);
+    s.listed
+}
+
+// The list that is read, its notes one behind the other by this choice.
+fn send(between: Between) {
     let mut buffer = io::large_buffer();
     let n = io::read_full(0, &mut buffer);
     let mut rows = room();
-    let s = station::send_list(Chip::reset(), &buffer[..n], &mut rows);
-    let told = s.listed;
+    let told = sent(&buffer[..n], &mut rows, between);
     let mut out = io::buffer();
     tell(&mut out, &rows, told);
+}
+
+// The one word that it may be given.
+fn is_shared() -> bool {
+    let mut word = [0u8; 16];
+    let n = os::arg(1, &mut word);
+    (os::arg_count() == 2) & check::same(&word[..n], b"--shared")
+}
+
+fn main() {
+    if os::arg_count() < 2 {
+        send(Between::usual());
+        return;
+    }
+    if is_shared() {
+        send(Between::SharedFlag);
+        return;
+    }
+    io::write_all(2, b"usage: sendlist [--shared] <LIST\n");
 }
