@@ -35,7 +35,8 @@ use Rattle.drive.specs.Laws.Calls.{sendingA, Stands, stands-as, set-up-stands}
 use Rattle.drive.specs.Laws.Look.{look-same}
 use Rattle.drive.specs.Laws.Frame.{flagBefore, opens, flag-again, RunsTo, beginning, begins}
 use Rattle.drive.specs.Laws.Frame.{frame-stage, come-length, sent-stands, frame-sent}
-use Rattle.listline.specs.ListLine.{flagged, sentNext, noteLine, flagLine, nextLines, allLine}
+use Rattle.listline.specs.ListLine.{flagged, sentNext, sentAll}
+use Rattle.listline.specs.ListLine.{noteLine, flagLine, nextLines, allLine}
 use Rattle.listline.specs.Laws.Empty.{Rests, rests}
 
 -- Behind a flag
@@ -117,6 +118,11 @@ anew c e =
     else (if b && free then controlA d sendAbort else setUp d) in
     ap (λ (b : Bool). is b .a .sender .unit) e
     ∙ ap (λ (f : Framer). f .unit) (set-up-stands d refl .sends)
+
+-- each is sent by the chip that has sent the one before
+pub sent-second : (between : Between) (c : Chip) (first second : List ℕ)
+    → sentAll between c (first ∷ second ∷ []) ≡ sentNext between (sentBy c first) second
+sent-second between c first second = refl
 
 -- Whatever the chip was: the bits up to a flag's end, then the notes' frames
 pub list-line : (between : Between) (c : Chip) (note : List ℕ) (notes : List (List ℕ))
