@@ -1,16 +1,14 @@
 -- A note that fits: the SDLC sender of a chip that is ready, fed to the end of its frame, is what the
 -- drive of the whole chip leaves. Assumes nothing.
-use mathlib.Core.Path.{_≡_, refl, sym, ap, subst, _∙_}
-use mathlib.Core.Bool.{Bool, true, false, _&&_}
+use mathlib.Core.Path.{_≡_, sym, ap, subst, _∙_}
+use mathlib.Core.Bool.{true}
 use mathlib.Core.List.{List, [], _∷_}
-use Prim.Native.Nat.{ℕ, _+_, _*_, _-_, _≤_, _<_}
+use Prim.Native.Nat.{ℕ, _+_, _-_, _<_}
 use native.Mathlib.Omega.{arith}
-use lib.Dec.{ltb}
 use lib.ListN.{length, getD, take, drop, length-drop}
 use lib.Seq.{take-length}
 use borrow.Author.Tests.{lt-ltb}
 use Rattle.common.specs.Tools.{void}
-use Rattle.line.specs.Check.{ones}
 use Rattle.line.specs.Frame.{flagBits, ticksOf}
 use Rattle.line.specs.Line.{noteFits}
 use Rattle.line.specs.Laws.Frame.{ticks-are}

@@ -19,8 +19,8 @@ usual = TwoFlags
 abbrev pub behindFlag : List ℕ → List Bool
 behindFlag note = drop (length flagBits) (frame note)
 
--- the flag that opens a next note: 01, "a closing flag opens the next frame", so none is sent; or one
--- of its own
+-- the flag that opens a next note: 01, "a closing flag opens the next frame", so none is sent; or
+-- one of its own
 abbrev pub ownFlag : Between → List Bool
 ownFlag SharedFlag = []
 ownFlag TwoFlags = flagBits

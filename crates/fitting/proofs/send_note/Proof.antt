@@ -1,6 +1,5 @@
 -- `fitting::send_note` meets its contract. Assumes nothing.
-use mathlib.Core.Path.{_≡_, sym, _∙_}
-use Prim.Native.Nat.{ℕ}
+use mathlib.Core.Path.{sym, _∙_}
 use Rattle.fitting.specs.Went.{went, wentOf}
 use borrow.Author.Needs.{needs}
 use Rattle.fitting.proofs.send_note.Statement.{statement}

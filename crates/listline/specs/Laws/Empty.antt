@@ -1,9 +1,9 @@
--- A frame that was fed to its end leaves the sender behind the closing flag with an empty buffer: the
--- latch is set only where no byte waits, and then no byte is left to write. Assumes nothing.
+-- A frame that was fed to its end leaves the sender behind the closing flag with an empty buffer:
+-- the latch is set only where no byte waits, and then no byte is left to write. Assumes nothing.
 use mathlib.Core.Path.{_≡_, refl, sym, ap, _∙_}
-use mathlib.Core.Bool.{Bool, true, false, not, _&&_}
+use mathlib.Core.Bool.{true, false, not, _&&_}
 use mathlib.Core.List.{List, [], _∷_}
-use Prim.Native.Nat.{ℕ, zero, suc, _+_, _≤_}
+use Prim.Native.Nat.{ℕ, zero, suc}
 use native.Mathlib.Omega.{arith}
 use lib.Dec.{eqb·suc-zero}
 use lib.ListN.{length}
@@ -14,7 +14,7 @@ use Rattle.sdlc.specs.declared.LineUnit.the-variants.{Mark, Flag, Byte, Check, 
 use Rattle.sdlc.specs.declared.Framer.{Framer}
 use Rattle.sdlc.specs.declared.Framed.{Framed}
 use Rattle.sdlc.specs.Sending.{following, noBitLeft, goesOn, going, tickSdlc}
-use Rattle.whole.specs.Come.{good, toCome, filledWith}
+use Rattle.whole.specs.Come.{good, toCome}
 use Rattle.whole.specs.Stage.{Stage, opening, inByte, inCheck, closing}
 use Rattle.whole.specs.Start.{frameEnded}
 use Rattle.whole.specs.Laws.Start.{unended-some}

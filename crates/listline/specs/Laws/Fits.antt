@@ -1,7 +1,7 @@
 -- Every note of a list that is not refused fits. Assumes nothing.
-use mathlib.Core.Path.{_≡_, refl, ap, subst, _∙_}
+use mathlib.Core.Path.{_≡_, ap, subst, _∙_}
 use mathlib.Core.Bool.{true, not}
-use mathlib.Core.List.{List, [], _∷_}
+use mathlib.Core.List.{List}
 use Prim.Native.Nat.{ℕ, zero, suc, _+_}
 use lib.Dec.{eqb, ltb}
 use lib.ListN.{length, getD}
@@ -10,7 +10,8 @@ use Rattle.line.specs.Line.{noteFits}
 use Rattle.head.specs.NoteHead.{lengthBytes, lengthAt, textAt}
 use Rattle.head.specs.Laws.{head-elim, textAt-length}
 use Rattle.notes.specs.NoteList.{version, firstNote, longestList, AllFit, fits-none, fits-more}
-use Rattle.notes.specs.NoteList.{Reading, whole, refuses, inFront, readHead, readFrom, restFrom, readList}
+use Rattle.notes.specs.NoteList.{Reading, whole, refuses, inFront, readHead}
+use Rattle.notes.specs.NoteList.{readFrom, restFrom, readList}
 
 abbrev Fitting : Reading → Type 0
 Fitting (whole notes) = AllFit notes

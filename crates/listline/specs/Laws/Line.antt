@@ -1,28 +1,25 @@
 -- The line of a list that a station sends: behind the first flag it is the notes' frames, joined as
 -- the choice says, whatever the chip was. Assumes nothing.
-use mathlib.Core.Path.{_≡_, refl, sym, ap, ap₂, subst, _∙_}
+use mathlib.Core.Path.{_≡_, refl, ap, ap₂, _∙_}
 use mathlib.Core.Bool.{Bool, true, false, not, _&&_}
 use mathlib.Core.List.{List, [], _∷_, _++_, append-assoc}
-use Prim.Native.Nat.{ℕ, zero, suc, _+_, _-_}
-use native.Mathlib.Omega.{arith}
-use lib.Dec.{eqb}
+use Prim.Native.Nat.{ℕ}
 use lib.ListN.{length, drop}
 use Rattle.common.specs.Choice.{if_then_else_}
-use Rattle.common.specs.Mode.{inSdlc}
 use Rattle.common.specs.Tools.{void}
-use Rattle.line.specs.Frame.{flagBits, frame}
-use Rattle.line.specs.Line.{noteFits}
+use Rattle.line.specs.Frame.{flagBits}
 use Rattle.flags.specs.declared.Between.{Between}
 use Rattle.flags.specs.declared.Between.the-variants.{SharedFlag, TwoFlags}
 use Rattle.flags.specs.Flags as flags
 use Rattle.flags.specs.Flags.{ownFlag, nextFrames, lineBehind, listLine}
-use Rattle.notes.specs.NoteList.{AllFit, fits-none, fits-more}
+use Rattle.notes.specs.NoteList.{AllFit, fits-more}
 use Rattle.shared.specs.declared.Shared.{Shared}
 use Rattle.sdlc.specs.declared.LineUnit.{LineUnit}
 use Rattle.sdlc.specs.declared.LineUnit.the-variants.{Mark}
 use Rattle.sdlc.specs.declared.Framer.{Framer}
 use Rattle.sdlc.specs.Sending.{aborting}
 use Rattle.sender.specs.declared.Sending.{Sending}
+use Rattle.sender.specs.Sender.{framerIn}
 use Rattle.sender.specs.Good.{Good}
 use Rattle.chip.specs.declared.Chip.{Chip}
 use Rattle.chip.specs.Chip.{hardReset, controlReadCall}
@@ -30,14 +27,15 @@ use Rattle.chip.specs.Computing.{computing}
 use Rattle.feed.specs.Feeding.{behindFlag, afterTicks}
 use Rattle.feed.specs.Laws.Feeding.{if-true}
 use Rattle.drive.specs.Drive.{lookA, canSend, standsStill, setUp, freed, prepared, ticksToFlag}
-use Rattle.drive.specs.Drive.{controlA, sendAbort, driven, drivenLine, frameOpened, ticksLeft, sentBy}
+use Rattle.drive.specs.Drive.{controlA, sendAbort, driven, drivenLine, frameOpened, ticksLeft}
+use Rattle.drive.specs.Drive.{sentBy}
 use Rattle.drive.specs.Laws.Calls.{sendingA, Stands, stands-as, set-up-stands}
 use Rattle.drive.specs.Laws.Look.{look-same}
-use Rattle.drive.specs.Laws.Frame.{flagBefore, opens, flag-again, RunsTo, beginning, begins}
+use Rattle.drive.specs.Laws.Frame.{flagBefore, opens, flag-again, beginning}
 use Rattle.drive.specs.Laws.Frame.{frame-stage, come-length, sent-stands, frame-sent}
 use Rattle.listline.specs.ListLine.{flagged, sentNext, sentAll}
 use Rattle.listline.specs.ListLine.{noteLine, flagLine, nextLines, allLine}
-use Rattle.listline.specs.Laws.Empty.{Rests, rests}
+use Rattle.listline.specs.Laws.Empty.{rests}
 
 -- Behind a flag
 
@@ -56,8 +54,7 @@ prepared-same : (c : Chip) → Behind c → prepared c ≡ c
 unfolding prepared freed standsStill
 prepared-same c b =
     let h = b .stands in
-    let still : Framer → Bool =
-    λ s. standsStill (record { unit = s .unit; insertion = s .insertion; shared = s .shared; character = c .a .sender .character }) in
+    let still : Framer → Bool = λ s. standsStill (framerIn (c .a .sender) s) in
     ap (λ (d : Chip). freed d (sendingA d) (d .a .sender)) (look-same c (h .pointer))
     ∙ if-true _ _ (ap₂ _&&_ (good-can (sendingA c) (h .good)) (ap still (h .sends)))
 
@@ -66,12 +63,14 @@ frame-line : (c : Chip) (v : ℕ) (vs : List ℕ)
     → drivenLine (ticksLeft (v ∷ vs)) (frameOpened c v) vs ≡ flags.behindFlag (v ∷ vs)
 frame-line c v vs = ap (drop (length flagBits)) (frame-sent c v vs)
 
-note-line : (c : Chip) (v : ℕ) (vs : List ℕ) → Behind c → noteLine c (v ∷ vs) ≡ flags.behindFlag (v ∷ vs)
+note-line : (c : Chip) (v : ℕ) (vs : List ℕ) → Behind c
+    → noteLine c (v ∷ vs) ≡ flags.behindFlag (v ∷ vs)
 unfolding drivenLine
 note-line c v vs b =
     let frameLine = drivenLine (ticksLeft (v ∷ vs)) (frameOpened c v) vs in
     let unit = ap (λ (s : Framer). s .unit) (b .stands .sends) in
-    ap (λ (d : Chip). drivenLine (ticksToFlag (d .a .sender .unit)) d [] ++ frameLine) (prepared-same c b)
+    ap (λ (d : Chip). drivenLine (ticksToFlag (d .a .sender .unit)) d [] ++ frameLine)
+    (prepared-same c b)
     ∙ ap (λ (u : LineUnit). drivenLine (ticksToFlag u) c [] ++ frameLine) unit
     ∙ frame-line c v vs
 

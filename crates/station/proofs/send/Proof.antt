@@ -1,5 +1,5 @@
 -- `station::send` meets its contract. Assumes nothing.
-use mathlib.Core.Path.{_≡_, refl, sym, ap, _∙_}
+use mathlib.Core.Path.{refl, sym, ap, _∙_}
 use denote.Ref.{now}
 use Rattle.fitting.specs.declared.Went.{Went}
 use Rattle.fitting.specs.Went.{went-as}

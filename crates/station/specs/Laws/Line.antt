@@ -1,7 +1,6 @@
--- What `station::send_list` puts on the line. Its contract names the chip, `chipAfter`, and the report;
--- the line of the ticks that make that chip is `lineAfter`. Assumes nothing.
+-- What `station::send_list` puts on the line. Its contract names the chip, `chipAfter`, and the
+-- report; the line of the ticks that make that chip is `lineAfter`. Assumes nothing.
 use mathlib.Core.Path.{_≡_, sym, ap, _∙_}
-use mathlib.Core.Bool.{Bool}
 use mathlib.Core.List.{List, [], _∷_, _++_}
 use Prim.Native.Nat.{ℕ}
 use lib.ListN.{length}
@@ -47,8 +46,10 @@ module _ (between : Between) (list : List ℕ) (note : List ℕ) (notes : List (
 
 -- of no note nothing is sent, and there is no tick
 pub none-sent : (between : Between) (c : Chip) (list : List ℕ) → readList list ≡ whole []
-    → (lineAfter between c (readList list) ≡ []) × (listedOf (reportOf between list) ≡ listed.All 0 0)
+    → (lineAfter between c (readList list) ≡ [])
+    × (listedOf (reportOf between list) ≡ listed.All 0 0)
 none-sent between c list e = (
   ap (lineAfter between c) e,
-  ap (λ (r : Reading). listedOf (reported between r)) e ∙ ap (listed.All 0) (sym (line-length between [])),
+  ap (λ (r : Reading). listedOf (reported between r)) e
+      ∙ ap (listed.All 0) (sym (line-length between [])),
 )

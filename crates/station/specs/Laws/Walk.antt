@@ -5,7 +5,7 @@ use mathlib.Core.List.{List, [], _∷_, foldl}
 use Prim.Native.Nat.{ℕ, suc, _+_, _*_, _/_, _≤_, _<_}
 use native.Mathlib.Omega.{arith}
 use native.Mathlib.Nat.{add-zero}
-use lib.Dec.{eqb, leb}
+use lib.Dec.{eqb}
 use lib.ListN.{length}
 use lib.Seq.{sets, length-sets}
 use borrow.Author.Tests.{leb-true, ne-eqb}
@@ -37,7 +37,8 @@ walked c n t r = record { chip = c; notes = n; sum = t; rows = r }
 
 abbrev pub oneSent : Between → Bool → Walked → List ℕ → Walked
 oneSent between told w note =
-    walked (sentBy (beforeNote between (w .notes) (w .chip)) note) (w .notes + 1) (withNote (w .sum) note)
+    walked (sentBy (beforeNote between (w .notes) (w .chip)) note) (w .notes + 1)
+    (withNote (w .sum) note)
     (toldAt told (w .rows) (rowLength * w .notes) (rowOf (w .notes + 1) note))
 
 pub record WalkedList : Type 0 where
@@ -95,7 +96,8 @@ module _ (between : Between) where
   from-next n c (note ∷ notes) h =
       let first : eqb n 0 ≡ false = ne-eqb n 0 (λ (e : n ≡ 0). omega arith) in
       let d = sentNext between c note in
-      ap (λ (b : Bool). chipFrom (n + 1) (sentBy (if b then c else flagged between c) note) notes) first
+      ap (λ (b : Bool).
+      chipFrom (n + 1) (sentBy (if b then c else flagged between c) note) notes) first
       ∙ from-next (n + 1) d notes (omega arith)
 
   from-first : (c : Chip) (notes : List (List ℕ)) → chipFrom 0 c notes ≡ sentAll between c notes
@@ -118,7 +120,8 @@ module _ (between : Between) where
       plain : (b : Bool)
           → allSent between (walked (chipFrom 0 c notes) (0 + length notes) (foldl withNote 0 notes)
           (toldAt b lent (rowLength * 0) (rowsFrom (0 + 1) notes)))
-          ≡ walkedList (listed.All (length notes) (totalTicks between notes)) (sentAll between c notes)
+          ≡ walkedList (listed.All (length notes) (totalTicks between notes))
+          (sentAll between c notes)
           (toldAt b lent 0 (rowsFrom 1 notes))
       plain b =
           let z : 0 + length notes ≡ length notes = omega arith in rw (z, from-first c notes)
