@@ -10,9 +10,12 @@ use Rattle.chip.specs.Computing.{computing}
 use Rattle.chip.specs.Event.{Event, HardReset, ControlRead, SetLines, Acknowledge}
 use Rattle.tales.specs.Tale.{after, given, times, digits, answers, refusal, reads, line}
 use Rattle.tales.specs.Words.{command, set, hears, writes, takes, ticks, channelReset, resetStatus}
-use Rattle.tales.specs.Words.{clearUnderrun, oneStop, oddParity, sdlc, hearing, sending, framing}
-use Rattle.tales.specs.Words.{char41, blank, flag, frame00}
+use Rattle.tales.specs.Words.{clearUnderrun, oneStop, oddParity, sdlc, hearEight, sendEight}
+use Rattle.tales.specs.Words.{hearing, sending, framing, char41, blank, flag, frame00}
 use Rattle.resetting.specs.Happens.{happens}
+
+abbrev afresh : List Event
+afresh = command 0 resetStatus
 
 abbrev reset : List Event
 reset = command 0 channelReset
@@ -37,12 +40,12 @@ pub record Told : Type 0 where
   -- "zeroes the WRs": no external interrupt, receiver off, sender off, address 0, vector 0
   pub wr1-zero : reads happens (set 0 1 0b1 ++ reset ++ (SetLines 0 1 0 ∷ [])) 0 0 ≡ 0x4C
   pub wr3-zero :
-      reads happens (set 0 3 1 ++ reset ++ set 0 4 sdlc ++ command 0 resetStatus ++ flag 0) 0 0
+      reads happens (set 0 3 hearEight ++ reset ++ set 0 4 sdlc ++ afresh ++ flag 0) 0 0
       ≡ 0x54
   pub wr5-zero :
-      line happens (set 0 5 0b1000 ++ reset ++ set 0 4 oneStop ++ writes 0 0) 0 1 ≡ 1 ∷ []
+      line happens (set 0 5 sendEight ++ reset ++ set 0 4 oneStop ++ writes 0 0) 0 1 ≡ 1 ∷ []
   pub wr6-zero :
-      reads happens (set 0 6 0xC2 ++ reset ++ set 0 4 sdlc ++ set 0 3 0b101 ++ frame00 0) 0 0
+      reads happens (set 0 6 0xC2 ++ reset ++ set 0 4 sdlc ++ set 0 3 0b11000101 ++ frame00 0) 0 0
       ≡ 0x55
   pub wr2-zero : reads happens (set 1 2 0xF1 ++ command 1 channelReset) 1 2 ≡ 0
   -- "empties buffer and queue"

@@ -82,7 +82,7 @@ abbrev pub sendEight : ℕ
 sendEight = 0b01101000
 
 abbrev pub sendChecked : ℕ
-sendChecked = 0b00001001
+sendChecked = 0b01101001
 
 -- a channel in this mode, its receiver or its sender on
 abbrev pub hearing : ℕ → ℕ → List Event
