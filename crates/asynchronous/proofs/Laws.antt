@@ -58,12 +58,12 @@ bit-is false = refl
 
 -- a character, with and without parity, as the code puts it together
 pub with-parity : (g : Typing) (v : ℕ) → g .format .parity ≡ true
-    → let n = bitsSent (g .format .length) in
+    → let n = bitsSent (g .format .length) v in
     let p = parityBit (g .format .even) (sentBits (g .format .length) v) in
     let s = stopBits (g .stops) in
     character (n + 1 + length s) ((fromLow s * 2 + boolByte p) * 2 ^ n + v % 2 ^ n) ≡ characterOf g v
 with-parity g v e =
-    let n = bitsSent (g .format .length) in
+    let n = bitsSent (g .format .length) v in
     let p = parityBit (g .format .even) (lowBits n v) in
     let s = stopBits (g .stops) in
     let count : n + 1 + length s ≡ length (lowBits n v ++ (p ∷ s)) =
@@ -73,11 +73,11 @@ with-parity g v e =
     rw e (ap₂ character count number)
 
 pub without-parity : (g : Typing) (v : ℕ) → g .format .parity ≡ false
-    → let n = bitsSent (g .format .length) in
+    → let n = bitsSent (g .format .length) v in
     let s = stopBits (g .stops) in
     character (n + length s) (fromLow s * 2 ^ n + v % 2 ^ n) ≡ characterOf g v
 without-parity g v e =
-    let n = bitsSent (g .format .length) in
+    let n = bitsSent (g .format .length) v in
     let s = stopBits (g .stops) in
     let count : n + length s ≡ length (lowBits n v ++ s) =
     omega (arith, length-append (lowBits n v) s, lowBits-length n v) in

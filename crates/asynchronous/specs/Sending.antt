@@ -10,6 +10,7 @@ use Rattle.common.specs.Choice.{if_then_else_}
 use Rattle.line.specs.Bits.{odd, lowBits}
 use Rattle.line.specs.Check.{differs}
 use Rattle.line.specs.Bits.{fromLow}
+use Rattle.shapes.specs.Shapes.{shapeBits}
 use Rattle.shared.specs.declared.Shared.{Shared}
 use Rattle.shared.specs.Shared.{emptied}
 use Rattle.asynchronous.specs.declared.Format.{Format}
@@ -19,13 +20,15 @@ use Rattle.asynchronous.specs.declared.Typed.{Typed}
 
 -- The bits of a character
 
--- 01, Registers: "Lengths: 00 five, 01 seven, 10 six, 11 eight."
-unfoldable pub bitsSent : ℕ → ℕ
-bitsSent n = if eqb n 5 then 5 else (if eqb n 6 then 6 else (if eqb n 7 then 7 else 8))
+-- 01, Registers: "Lengths: 00 five, 01 seven, 10 six, 11 eight." 02, P1: with 00 as many as the
+-- byte's shape says
+unfoldable pub bitsSent : ℕ → ℕ → ℕ
+bitsSent n v =
+    if eqb n 5 then shapeBits v else (if eqb n 6 then 6 else (if eqb n 7 then 7 else 8))
 
 -- "the low bits": what a character of this length sends of a byte
 abbrev pub sentBits : ℕ → ℕ → List Bool
-sentBits n v = lowBits (bitsSent n) v
+sentBits n v = lowBits (bitsSent n v) v
 
 -- whether the ones are odd in number, counted on from what stood before
 unfoldable pub oddOver : Bool → List Bool → Bool

@@ -2,6 +2,7 @@
 use crate::Character;
 use crate::Typed;
 use crate::Typing;
+use shapes::shape_bits;
 use shared::Shared;
 ghost use mathlib.Core.Path.{_≡_};
 ghost use Prim.Native.Nat.{_+_, _*_, _%_, _^_, _≤_};
@@ -10,12 +11,12 @@ ghost use Rattle.line.specs.Bits.{lowBits};
 ghost use Rattle.line.specs.Bits.{fromLow};
 ghost use Rattle.asynchronous.specs.Sending.{bitsSent, parityBit, stopBits, characterOf, startCharacter, idling, tickCharacter};
 
-// How many bits a character of this length sends.
-fn bits_sent(length: u8) -> u8
-    ensures { λ r. ⌜ r ≡ bitsSent length ⌝ }
+// How many bits of this byte a character of this length sends.
+fn bits_sent(length: u8, v: u8) -> u8
+    ensures { λ r. ⌜ r ≡ bitsSent length v ⌝ }
 {
     if length == 5 {
-        return 5;
+        return shape_bits(v);
     }
     if length == 6 {
         return 6;
@@ -57,12 +58,24 @@ fn stop_ones(stops: u8) -> u8
 
 // The bits of t above the low n bits of v.
 fn above(n: u8, v: u8, t: u8) -> u16
-    requires { ⌜ 5 ≤ n ⌝ }
+    requires { ⌜ 1 ≤ n ⌝ }
     requires { ⌜ n ≤ 8 ⌝ }
     ensures { λ r. ⌜ r ≡ t * 2 ^ n + v % 2 ^ n ⌝ }
 {
     let low = v as u16;
     let high = t as u16;
+    if n == 1 {
+        return high * 2 + low % 2;
+    }
+    if n == 2 {
+        return high * 4 + low % 4;
+    }
+    if n == 3 {
+        return high * 8 + low % 8;
+    }
+    if n == 4 {
+        return high * 16 + low % 16;
+    }
     if n == 5 {
         return high * 32 + low % 32;
     }
@@ -80,7 +93,7 @@ impl Typing {
     fn character(self, v: u8) -> Character
         ensures { λ r. ⌜ r ≡ characterOf self v ⌝ }
     {
-        let n = bits_sent(self.format.length);
+        let n = bits_sent(self.format.length, v);
         let count = stop_count(self.stops);
         let ones = stop_ones(self.stops);
         if self.format.parity {

@@ -12,6 +12,7 @@ use Rattle.line.specs.Bits.{lowBits}
 use Rattle.line.specs.Check.{differs}
 use Rattle.line.specs.Laws.Bits.{lowBits-length}
 use Rattle.line.specs.Laws.Xor.{differs-self}
+use Rattle.shapes.specs.Laws.{shape-least, shape-most}
 use Rattle.asynchronous.specs.declared.Format.{Format}
 use Rattle.asynchronous.specs.declared.Typing.{Typing}
 use Rattle.asynchronous.specs.Sending.{bitsSent, sentBits, oddOver, parityBit, parityBits}
@@ -52,18 +53,18 @@ parity-total false bs =
     differs-other true = refl
     differs-other false = refl
 
--- a character sends five to eight bits, and has at most one parity and two stop bits
-pub bits-least : (n : ℕ) → 5 ≤ bitsSent n
+-- a character sends one to eight bits, and has at most one parity and two stop bits
+pub bits-least : (n v : ℕ) → 1 ≤ bitsSent n v
 unfolding bitsSent
-bits-least n =
-    if-elim (λ (x : ℕ). 5 ≤ x) (eqb n 5) (omega arith)
-    (if-elim (λ (x : ℕ). 5 ≤ x) (eqb n 6) (omega arith)
-    (if-elim (λ (x : ℕ). 5 ≤ x) (eqb n 7) (omega arith) (omega arith)))
+bits-least n v =
+    if-elim (λ (x : ℕ). 1 ≤ x) (eqb n 5) (shape-least v)
+    (if-elim (λ (x : ℕ). 1 ≤ x) (eqb n 6) (omega arith)
+    (if-elim (λ (x : ℕ). 1 ≤ x) (eqb n 7) (omega arith) (omega arith)))
 
-pub bits-most : (n : ℕ) → bitsSent n ≤ 8
+pub bits-most : (n v : ℕ) → bitsSent n v ≤ 8
 unfolding bitsSent
-bits-most n =
-    if-elim (λ (x : ℕ). x ≤ 8) (eqb n 5) (omega arith)
+bits-most n v =
+    if-elim (λ (x : ℕ). x ≤ 8) (eqb n 5) (omega (arith, shape-most v))
     (if-elim (λ (x : ℕ). x ≤ 8) (eqb n 6) (omega arith)
     (if-elim (λ (x : ℕ). x ≤ 8) (eqb n 7) (omega arith) (omega arith)))
 
@@ -84,8 +85,8 @@ character-most g v =
       arith,
       length-append d (p ++ s),
       length-append p s,
-      lowBits-length (bitsSent n) v,
-      bits-most n,
+      lowBits-length (bitsSent n v) v,
+      bits-most n v,
       parity-most (g .format) d,
       stops-most (g .stops),
     )
