@@ -26,7 +26,7 @@ use Rattle.chip.specs.Isolation.{ButService, ServiceAlone}
 
 data-service : (c : Channel) (s : Sources) → nextRead (withService c s) ≡ nextRead c
 unfolding dataRead
-data-service c s = bool-or (waits (c .queue)) (λ e. rw e) (λ e. rw e)
+data-service c s = bool-or (waits (c .queue)) (λ e. rw (nextRead, e)) (λ e. rw (nextRead, e))
 
 service-same : (c : Channel) (s : Sources) → Same (withService c s) c
 unfolding transmitTick rr1Now rr0 liveOf
