@@ -2,45 +2,14 @@
 use crate::Character;
 use crate::Typed;
 use crate::Typing;
-use shapes::shape_bits;
+use shapes::bits_sent;
+use shapes::parity_bit;
 use shared::Shared;
 ghost use mathlib.Core.Path.{_≡_};
 ghost use Prim.Native.Nat.{_+_, _*_, _%_, _^_, _≤_};
 ghost use lib.ListN.{length};
-ghost use Rattle.line.specs.Bits.{lowBits};
 ghost use Rattle.line.specs.Bits.{fromLow};
-ghost use Rattle.asynchronous.specs.Sending.{bitsSent, parityBit, stopBits, characterOf, startCharacter, idling, tickCharacter};
-
-// How many bits of this byte a character of this length sends.
-fn bits_sent(length: u8, v: u8) -> u8
-    ensures { λ r. ⌜ r ≡ bitsSent length v ⌝ }
-{
-    if length == 5 {
-        return shape_bits(v);
-    }
-    if length == 6 {
-        return 6;
-    }
-    if length == 7 {
-        return 7;
-    }
-    8
-}
-
-// The parity bit of the low n bits of v.
-fn parity_bit(even: bool, n: u8, v: u8) -> bool
-    ensures { λ r. ⌜ r ≡ parityBit even (lowBits n v) ⌝ }
-{
-    let mut odd = !even;
-    let mut rest = v;
-    let mut left = n;
-    while 0 < left {
-        odd = odd != (rest % 2 == 1);
-        rest = rest / 2;
-        left = left - 1;
-    }
-    odd
-}
+ghost use Rattle.asynchronous.specs.Sending.{stopBits, characterOf, startCharacter, idling, tickCharacter};
 
 // The number of stop bits.
 fn stop_count(stops: u8) -> u8
@@ -97,7 +66,7 @@ impl Typing {
         let count = stop_count(self.stops);
         let ones = stop_ones(self.stops);
         if self.format.parity {
-            let p = parity_bit(self.format.even, n, v) as u8;
+            let p = parity_bit(self.format.even, self.format.length, v) as u8;
             return Character {
                 left: n + 1 + count,
                 bits: above(n, v, ones * 2 + p),

@@ -27,13 +27,21 @@ module _ (v : ℕ) where
         pub sends-four : v / 16 ≡ 0b1000 → 4 ≡ shapeBits v
         unfolding shapeBits
         sends-four a =
-            rw (ne-eqb (v / 2) 0b1111000 one, ne-eqb (v / 4) 0b111000 two,
-            ne-eqb (v / 8) 0b11000 three, eq-eqb (v / 16) 0b1000 a)
+            rw (
+              ne-eqb (v / 2) 0b1111000 one,
+              ne-eqb (v / 4) 0b111000 two,
+              ne-eqb (v / 8) 0b11000 three,
+              eq-eqb (v / 16) 0b1000 a,
+            )
 
         -- five, by the fifth shape and without one
         pub sends-five : v / 16 ≢ 0b1000 → 5 ≡ shapeBits v
         unfolding shapeBits
         sends-five four =
-            rw (ne-eqb (v / 2) 0b1111000 one, ne-eqb (v / 4) 0b111000 two,
-            ne-eqb (v / 8) 0b11000 three, ne-eqb (v / 16) 0b1000 four)
+            rw (
+              ne-eqb (v / 2) 0b1111000 one,
+              ne-eqb (v / 4) 0b111000 two,
+              ne-eqb (v / 8) 0b11000 three,
+              ne-eqb (v / 16) 0b1000 four,
+            )
             (if-elim (λ (x : ℕ). 5 ≡ x) (eqb (v / 32) 0b000) refl refl)

@@ -1,6 +1,7 @@
 -- `asynchronous::Typing::character` meets its contract: parts of at most eight, one and two bits fit, and they lie as the definition's bits do. Assumes nothing.
 use native.Mathlib.Omega.{arith}
-use Rattle.asynchronous.specs.Laws.Character.{bits-least, bits-most, stops-most}
+use Rattle.shapes.specs.Laws.Sent.{bits-least, bits-most}
+use Rattle.asynchronous.specs.Laws.Character.{stops-most}
 use Rattle.asynchronous.proofs.Laws.{ones-most, bit-most, with-parity, without-parity}
 use borrow.Author.Needs.{needs}
 use Rattle.asynchronous.proofs.Typing.character.Statement.{statement}
