@@ -1,5 +1,5 @@
 #!/usr/bin/env python3
-"""A second model of the chip, the line and the list, written from document 01 and its readings alone, without sight of the product's code.
+"""A second model of the chip, the line and the list, written from documents 01 and 02 and their readings alone, without sight of the product's code.
 
     model.py < EVENTS        prints what the program `trace` must print for these events
 
@@ -200,7 +200,7 @@ class Channel:
 
     def data_read(self):
         if not self.queue:
-            return 0
+            raise Refused(10)
         entry = self.queue.pop(0)
         self.armed = False
         if self.queue:
