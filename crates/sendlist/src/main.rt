@@ -41,11 +41,11 @@ fn put(out: &mut [u8], at: usize, text: &[u8]) -> usize {
 }
 
 // A number, and the byte behind it.
-fn put_number(out: &mut [u8], at: usize, v: usize, end: &[u8]) -> usize {
+fn put_number(out: &mut [u8], at: usize, v: usize, end: u8) -> usize {
     let mut digits = [0u8; 20];
     let n = io::decimal(v as u64, &mut digits);
     let p = put(out, at, &digits[..n]);
-    put(out, p, end)
+    put_byte(out, p, end)
 }
 
 // The row at a place, as a line.
@@ -56,10 +56,10 @@ fn put_row(out: &mut [u8], at: usize, rows: &[usize], j: usize) -> usize {
     if rows.len() - ROW < j {
         return at;
     }
-    let p = put_number(out, at, rows[j], b" ");
-    let p = put_number(out, p, rows[j + 1], b" ");
-    let p = put_number(out, p, rows[j + 2], b" ");
-    put_number(out, p, rows[j + 3], b"\n")
+    let p = put_number(out, at, rows[j], b' ');
+    let p = put_number(out, p, rows[j + 1], b' ');
+    let p = put_number(out, p, rows[j + 2], b' ');
+    put_number(out, p, rows[j + 3], b'\n')
 }
 
 fn wide(x: u8) -> usize {
@@ -106,14 +106,14 @@ fn tell(out: &mut [u8], rows: &[usize], told: Listed) {
     match told {
         Listed::Refused(k) => {
             let p = put(out, 0, b"refused ");
-            let p = put_number(out, p, wide(k.number()), b"\n");
+            let p = put_number(out, p, wide(k.number()), b'\n');
             flush(out, p);
         }
         Listed::All { notes, ticks } => {
             let p = put_rows(out, rows, notes);
             let p = put(out, p, b"end ");
-            let p = put_number(out, p, notes, b" ");
-            let p = put_number(out, p, ticks, b"\n");
+            let p = put_number(out, p, notes, b' ');
+            let p = put_number(out, p, ticks, b'\n');
             flush(out, p);
         }
     }
@@ -125,14 +125,19 @@ fn sent(list: &[u8], rows: &mut [usize], between: Between) -> Listed {
     s.listed
 }
 
+// A list is sent, and what went is told.
+fn send_and_tell(list: &[u8], rows: &mut [usize], between: Between) {
+    let told = sent(list, rows, between);
+    let mut out = io::buffer();
+    tell(&mut out, rows, told);
+}
+
 // The list that is read, its notes one behind the other by this choice.
 fn send(between: Between) {
     let mut buffer = io::large_buffer();
     let n = io::read_full(0, &mut buffer);
     let mut rows = room();
-    let told = sent(&buffer[..n], &mut rows, between);
-    let mut out = io::buffer();
-    tell(&mut out, &rows, told);
+    send_and_tell(&buffer[..n], &mut rows, between);
 }
 
 // The one word that it may be given.
