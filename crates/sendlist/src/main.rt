@@ -48,7 +48,22 @@ fn put_number(out: &mut [u8], at: usize, v: usize, end: u8) -> usize {
     put_byte(out, p, end)
 }
 
-// The row at a place, as a line.
+// Four numbers, as a line.
+fn put_line(
+    out: &mut [u8],
+    at: usize,
+    number: usize,
+    bytes: usize,
+    zeros: usize,
+    ticks: usize,
+) -> usize {
+    let p = put_number(out, at, number, b' ');
+    let p = put_number(out, p, bytes, b' ');
+    let p = put_number(out, p, zeros, b' ');
+    put_number(out, p, ticks, b'\n')
+}
+
+// The row at a place.
 fn put_row(out: &mut [u8], at: usize, rows: &[usize], j: usize) -> usize {
     if rows.len() < ROW {
         return at;
@@ -56,10 +71,7 @@ fn put_row(out: &mut [u8], at: usize, rows: &[usize], j: usize) -> usize {
     if rows.len() - ROW < j {
         return at;
     }
-    let p = put_number(out, at, rows[j], b' ');
-    let p = put_number(out, p, rows[j + 1], b' ');
-    let p = put_number(out, p, rows[j + 2], b' ');
-    put_number(out, p, rows[j + 3], b'\n')
+    put_line(out, at, rows[j], rows[j + 1], rows[j + 2], rows[j + 3])
 }
 
 fn wide(x: u8) -> usize {
