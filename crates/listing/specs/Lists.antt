@@ -1,8 +1,7 @@
 -- 01, Note list and line, and rows 5 to 7 of its table: small lists, and how each is read.
 -- Assumes nothing.
 use mathlib.Core.Path.{_≡_, refl}
-use mathlib.Core.List.{List, [], _∷_}
-use Prim.Native.Nat.{ℕ}
+use mathlib.Core.List.{[], _∷_}
 use Rattle.common.specs.declared.Refusal.the-variants.{NoList, NoteLength, CutList}
 use Rattle.line.specs.Bits.{lowBits, textBits}
 use Rattle.line.specs.Check.{checkStep, checkOver, topBits, checkBits}
