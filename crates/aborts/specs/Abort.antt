@@ -42,7 +42,7 @@ use Rattle.stories.specs.Sent.{lineOf, ticks}
 use Rattle.receiving.specs.Untold.{abort-untold}
 use Rattle.history.specs.Sending.Side.{good, good-of, SenderSide, sendingIn, sideIn, sideOf}
 use Rattle.aborts.specs.Statement.{SendsAbort, LeftToRun, ended, kept, ticking, AbortCuts, AbortUntold}
-use Rattle.history.specs.Sending.Events.{tickedOf, tick-side, tick-bit, tick-counts, skip-line}
+use Rattle.history.specs.Sending.Events.{tickedOf, tick-side, tick-bit, tick-more, skip-line}
 use Rattle.history.specs.Sending.Events.{skip-ticks, line-join}
 use Rattle.sending.specs.Frame.{frame-kept, frame-begun}
 use Rattle.channel.specs.declared.Side.the-variants as channels
@@ -115,10 +115,6 @@ runs (Abort zero) r k l = record {
 }
 runs (Abort (suc n)) r k l =
     record { sent = true; next = Abort n; ticks-to = tick-abort come.good k n r; head = refl }
-
-tick-more : (w : Which) (st : List Event) → ticks w (Transmit (number w) ∷ st) ≡ suc (ticks w st)
-unfolding ticks
-tick-more w st = rw (tick-counts w) (omega arith)
 
 runs-line : (w : Which) {c : Chip} {st : List Event} → LeftToRun w c st → sideOf w c .heeds ≡ good → (u : LineUnit) → chan w c .sender .unit ≡ u
     → chan w c .sender .insertion .owed ≡ false → ticks w st ≤ length (running u) → lineOf w c st ≡ take (ticks w st) (running u)

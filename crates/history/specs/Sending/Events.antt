@@ -3,7 +3,7 @@
 use mathlib.Core.Path.{_≡_, refl, sym, ap, _∙_}
 use mathlib.Core.Bool.{Bool, true, false}
 use mathlib.Core.List.{List, [], _∷_, _++_, append-assoc}
-use Prim.Native.Nat.{ℕ}
+use Prim.Native.Nat.{ℕ, suc}
 use native.Mathlib.Omega.{arith}
 use lib.ListN.{length, length-append}
 use Rattle.line.specs.Bits.{oneIf}
@@ -72,6 +72,10 @@ tick-bit w c e = tick-gives w c ∙ ap (λ (t : Ticked). t .bit ∷ []) (tick-fr
 pub tick-counts : (w : Which) → isTick w (Transmit (number w)) ≡ true
 tick-counts A = refl
 tick-counts B = refl
+
+pub tick-more : (w : Which) (st : List Event) → ticks w (Transmit (number w) ∷ st) ≡ suc (ticks w st)
+unfolding ticks
+tick-more w st = rw (tick-counts w) (omega arith)
 
 pub write-side : (w : Which) (c : Chip) (v : ℕ)
     → sideOf w (happens c (DataWrite (number w) v) .chip)

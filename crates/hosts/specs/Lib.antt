@@ -1,0 +1,5 @@
+pub mod Loaded
+pub mod Steps
+pub mod Statement
+pub mod Line
+pub mod Punctual

@@ -1,0 +1,61 @@
+-- Demand 3 of every host, not only of the punctual one: whatever it ticks and writes and whenever, the line is the
+-- frame of the bytes loaded. Proofs: Line, Punctual, Late. Assumes nothing.
+use mathlib.Core.Path.{_≡_}
+use mathlib.Core.Bool.{true, false}
+use mathlib.Core.List.{List, [], _∷_, _++_}
+use Prim.Native.Nat.{ℕ, _+_, _-_, _*_, _≤_}
+use lib.ListN.{length, take}
+use Rattle.line.specs.Frame.{frame, zerosOf}
+use Rattle.chip.specs.declared.Chip.{Chip}
+use Rattle.chip.specs.Event.{Event, Transmit}
+use Rattle.whole.specs.Start.{flagHead}
+use Rattle.stories.specs.Story.{Which, number, chan, happens, after}
+use Rattle.stories.specs.Sent.{lineOf, ticks, d6}
+use Rattle.timely.specs.Start.{Start}
+use Rattle.timely.specs.InTime.{InTime}
+use Rattle.timely.specs.Free.{Free}
+use Rattle.sending.specs.Statement.{RunsDry, statusLatched}
+use Rattle.hosts.specs.Loaded.{loaded, passed, flags, closed, Host}
+
+-- From demand 3's start on, at every moment so much of the frame of the bytes loaded is sent, behind the flags that
+-- passed before the first of them; once the closing flag is out it is that frame, and it holds a byte
+pub record Carried (w : Which) (c : Chip) (p : ℕ) (st : List Event) : Type 0 where
+  pub begun : flagHead p ++ lineOf w c st
+      ≡ take (p + ticks w st) (flags (passed w c st) ++ frame (loaded w c st))
+  pub whole : closed w (after c st) ≡ true
+      → flagHead p ++ lineOf w c st ≡ flags (passed w c st) ++ frame (loaded w c st)
+  pub some : closed w (after c st) ≡ true → 1 ≤ length (loaded w c st)
+
+abbrev pub EveryHost : Type 0
+EveryHost = (w : Which) (c : Chip) (p : ℕ) (st : List Event) → Start w c p → Host w c st → Carried w c p st
+
+-- every story of a free host is such a story, or begins with one that ends with the closing flag
+pub record Front (w : Which) (c : Chip) (st : List Event) : Type 0 where
+  pub front : List Event
+  pub behind : List Event
+  pub joined : st ≡ front ++ behind
+  pub host : Host w c front
+  pub ended : closed w (after c front) ≡ false → behind ≡ []
+
+abbrev pub HostFront : Type 0
+HostFront = (w : Which) (c : Chip) (st : List Event) → Free w c st → Front w c st
+
+-- In time: what is loaded is what was written, and no flag passes. The eight-tick rule is one way to be so
+pub record Punctual (w : Which) (c : Chip) (st : List Event) (note : List ℕ) : Type 0 where
+  pub host : Host w c st
+  pub bytes : loaded w c st ≡ note
+  pub none : passed w c st ≡ 0
+  pub ended : closed w (after c st) ≡ true
+
+abbrev pub InTimeLoads : Type 0
+InTimeLoads = (w : Which) (c : Chip) (p v : ℕ) (vs : List ℕ) (st : List Event) → Start w c p
+    → InTime w [] c (p - 1) (v ∷ vs) st
+    → p + ticks w st ≡ 8 * (length (v ∷ vs) + 2) + 16 + zerosOf (v ∷ vs) → Punctual w c st (v ∷ vs)
+
+-- "If the buffer is empty at the first tick after a byte and any owed zero, the frame holds just the bytes loaded so
+-- far": the line runs dry behind the story xs of any host, and the host does as it likes until the frame is closed
+abbrev pub RunDry : Type 0
+RunDry = (w : Which) (c : Chip) (p : ℕ) (xs ys : List Event) → Start w c p → Host w c xs → RunsDry w (after c xs)
+    → Host w (happens (after c xs) (Transmit (number w)) .chip) ys
+    → closed w (after c (xs ++ (Transmit (number w) ∷ ys))) ≡ true
+    → flagHead p ++ lineOf w c (xs ++ (Transmit (number w) ∷ ys)) ≡ flags (passed w c xs) ++ frame (loaded w c xs)
