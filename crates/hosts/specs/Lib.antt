@@ -3,3 +3,4 @@ pub mod Steps
 pub mod Statement
 pub mod Line
 pub mod Punctual
+pub mod Late

@@ -1,7 +1,7 @@
 -- Every host's line: what was sent and what would come, if nothing more were loaded, are the frame of the bytes
 -- loaded, at every moment. One induction over the story. Assumes nothing.
 use mathlib.Core.Path.{_≡_, refl, sym, ap, ap₂, _∙_, subst}
-use mathlib.Core.Bool.{Bool, true, false, not, _&&_}
+use mathlib.Core.Bool.{Bool, true, false, _&&_}
 use mathlib.Core.List.{List, [], _∷_, _++_, append-assoc, append-nil}
 use Prim.Native.Nat.{ℕ, zero, suc, _+_, _-_, _≤_}
 use native.Mathlib.Omega.{arith}
@@ -25,14 +25,14 @@ use Rattle.stories.specs.Sent.{ticksBy, isTick, lineOf, ticks}
 use Rattle.history.specs.Sending.Side.{good, SenderSide, side, sideOf}
 use Rattle.history.specs.Sending.Events.{tickedOf, tick-side, tick-bit, tick-counts, write-side}
 use Rattle.history.specs.Sending.Events.{write-no-tick, skip-line}
-use Rattle.timely.specs.Start.{Start, start-side}
+use Rattle.timely.specs.Start.{start-side}
 use Rattle.timely.specs.Free as free
 use Rattle.sending.specs.Frame.{sent-length}
 use Rattle.hosts.specs.Loaded.{senderOf, leaves, loads, loaded, idles, onMore, passed, flags, closed}
 use Rattle.hosts.specs.Loaded.{Host, rests, still, writes, ticking}
 use Rattle.hosts.specs.Steps.{Going, opening, inByte, inCheck, closing, ahead, May, unopened}
-use Rattle.hosts.specs.Steps.{Steps, steps}
-use Rattle.hosts.specs.Statement.{EveryHost, HostFront, Front}
+use Rattle.hosts.specs.Steps.{steps}
+use Rattle.hosts.specs.Statement.{EveryHost, HostFront}
 
 -- What an event adds to what is loaded and to the flags that pass
 

@@ -1,8 +1,8 @@
 -- In time by the eight-tick rule means that what is loaded is what was written. Assumes nothing.
-use mathlib.Core.Path.{_≡_, refl, sym, ap, ap₂, _∙_, subst}
-use mathlib.Core.Bool.{Bool, true, false, not, _&&_}
+use mathlib.Core.Path.{_≡_, refl, sym, ap, ap₂, _∙_}
+use mathlib.Core.Bool.{Bool, true, false}
 use mathlib.Core.List.{List, [], _∷_, _++_, append-assoc, append-nil}
-use Prim.Native.Nat.{ℕ, zero, suc, _+_, _-_, _≤_}
+use Prim.Native.Nat.{ℕ, zero, suc, _+_, _≤_}
 use native.Mathlib.Omega.{arith}
 use lib.Dec.{eqb·suc-zero}
 use lib.ListN.{length, length-append}
@@ -21,12 +21,12 @@ use Rattle.whole.specs.Start.{started, flagHead, frameEnded}
 use Rattle.whole.specs.Laws.Come.{takes, moves, later, too-late}
 use Rattle.whole.specs.Laws.Start.{head-length, at-start, start-stage, ended-none, unended-some}
 use Rattle.stories.specs.Story.{Which, number, chan, happens, after}
-use Rattle.stories.specs.Sent.{ticksBy, isTick, lineOf, ticks}
+use Rattle.stories.specs.Sent.{ticksBy, ticks}
 use Rattle.history.specs.Sending.Side.{good, SenderSide, side, sideOf, fullOf}
 use Rattle.history.specs.Sending.Events.{tickedOf, tick-side, tick-more, write-side, write-no-tick, skip-ticks}
-use Rattle.timely.specs.Start.{Start, start-side}
+use Rattle.timely.specs.Start.{start-side}
 use Rattle.timely.specs.InTime.{InTime, over, still, writes, next-frame, ticking}
-use Rattle.hosts.specs.Loaded.{senderOf, leaves, loaded, idles, onMore, passed, closed, Host}
+use Rattle.hosts.specs.Loaded.{senderOf, leaves, loaded, idles, onMore, passed, Host}
 use Rattle.hosts.specs.Loaded as hosts
 use Rattle.hosts.specs.Steps.{Going, meant, steps}
 use Rattle.hosts.specs.Steps as steps

@@ -3,8 +3,8 @@
 use mathlib.Core.Path.{_≡_, refl, sym, ap, _∙_}
 use mathlib.Core.Bool.{Bool, true, false, not, _&&_}
 use mathlib.Core.List.{List, [], _∷_, _++_}
-use Prim.Native.Nat.{ℕ, zero, suc, _+_, _/_}
-use lib.Dec.{eqb, eqb·suc-zero}
+use Prim.Native.Nat.{ℕ, zero, suc, _/_}
+use lib.Dec.{eqb·suc-zero}
 use Rattle.common.specs.Choice.{if_then_else_}
 use Rattle.common.specs.Tools.{void}
 use Rattle.line.specs.Bits.{odd, lowBits}
@@ -12,7 +12,6 @@ use Rattle.line.specs.Check.{sdlc, top, shifted, complement, checkOver, topBits
 use Rattle.line.specs.Insertion.{owes, runAfter, zeroIf, stuff}
 use Rattle.line.specs.Frame.{flagBits}
 use Rattle.line.specs.declared.Insertion.{Insertion}
-use Rattle.shared.specs.declared.Shared.{Shared}
 use Rattle.shared.specs.Shared.{shared}
 use Rattle.sdlc.specs.declared.LineUnit.{LineUnit}
 use Rattle.sdlc.specs.declared.LineUnit.the-variants.{Mark, Flag, Byte, Check, Abort}
@@ -21,7 +20,7 @@ use Rattle.sdlc.specs.Sending.{insertion, notCounted, framer, framed, flagBit, 
 use Rattle.sdlc.specs.Laws.Tick.{tick-owed, tick-flag, tick-byte, tick-check}
 use Rattle.sdlc.specs.Laws.Tick.{tick-chooses, next-flag-full, next-flag-empty, next-byte-full}
 use Rattle.sdlc.specs.Laws.Tick.{next-byte-check, next-check}
-use Rattle.whole.specs.Come.{good, flagTail, waiting, filledWith}
+use Rattle.whole.specs.Come.{good, flagTail, waiting}
 use Rattle.whole.specs.Come as come
 use Rattle.whole.specs.Start.{frameEnded}
 use Rattle.whole.specs.Laws.Come.{stuffed, load, byte-on, check-starts}
