@@ -4,3 +4,5 @@ pub mod Statement
 pub mod Line
 pub mod Punctual
 pub mod Late
+pub mod Tests
+pub mod Example
