@@ -3,17 +3,19 @@
 use mathlib.Core.Path.{_≡_, refl, sym, ap, ap₂, _∙_, subst}
 use mathlib.Core.Bool.{Bool, true, false, _&&_}
 use mathlib.Core.List.{List, [], _∷_, _++_, append-assoc, append-nil}
-use Prim.Native.Nat.{ℕ, zero, suc, _+_, _-_, _≤_}
+use Prim.Native.Nat.{ℕ, zero, suc, _+_, _-_, _*_, _≤_, _<_}
 use native.Mathlib.Omega.{arith}
 use lib.Dec.{eqb·suc-zero}
 use lib.ListN.{length, take, length-append}
 use lib.Seq.{take-at}
 use Rattle.common.specs.Tools.{bool-or, void}
-use Rattle.line.specs.Check.{ones}
+use Rattle.line.specs.Bits.{lowBits, textBits}
+use Rattle.line.specs.Check.{sdlc, ones, checkOver, topBits, checkBits}
+use Rattle.line.specs.Insertion.{zeroIf, stuff}
 use Rattle.line.specs.Frame.{flagBits, frame}
 use Rattle.sdlc.specs.declared.Framer.{Framer}
 use Rattle.sdlc.specs.declared.Framed.{Framed}
-use Rattle.sdlc.specs.Sending.{tickSdlc}
+use Rattle.sdlc.specs.Sending.{tickSdlc, aborting}
 use Rattle.chip.specs.declared.Chip.{Chip}
 use Rattle.chip.specs.Event.{Event, DataWrite, Transmit}
 use Rattle.whole.specs.Come.{flagTail, filledWith}
@@ -23,14 +25,14 @@ use Rattle.whole.specs.Laws.Start.{head-tail}
 use Rattle.stories.specs.Story.{Which, number, chan, happens, after}
 use Rattle.stories.specs.Sent.{ticksBy, isTick, lineOf, ticks}
 use Rattle.history.specs.Sending.Side.{good, SenderSide, side, sideOf}
-use Rattle.history.specs.Sending.Events.{tickedOf, tick-side, tick-bit, tick-counts, write-side}
-use Rattle.history.specs.Sending.Events.{write-no-tick, skip-line}
+use Rattle.history.specs.Sending.Events.{tickedOf, tick-side, tick-bit, tick-counts, tick-more, write-side}
+use Rattle.history.specs.Sending.Events.{write-no-tick, skip-line, skip-ticks}
 use Rattle.timely.specs.Start.{start-side}
 use Rattle.timely.specs.Free as free
 use Rattle.sending.specs.Frame.{sent-length}
 use Rattle.hosts.specs.Loaded.{senderOf, leaves, loads, loaded, idles, onMore, passed, flags, closed}
 use Rattle.hosts.specs.Loaded.{Host, rests, still, writes, ticking}
-use Rattle.hosts.specs.Steps.{Going, opening, inByte, inCheck, closing, ahead, May, unopened}
+use Rattle.hosts.specs.Steps.{Going, opening, inByte, inCheck, closing, ahead, May, unopened, flagLeft}
 use Rattle.hosts.specs.Steps.{steps}
 use Rattle.hosts.specs.Statement.{EveryHost, HostFront}
 
@@ -75,6 +77,7 @@ pub record Kept (w : Which) (c : Chip) (st : List Event) (s : Framer) : Type 0 w
   pub may-be : May s (passed w c st) (loaded w c st)
   pub whole : lineOf w c st ++ ahead last 0 [] ≡ ahead s (passed w c st) (loaded w c st)
   pub some : unopened s ≡ true → unopened last ≡ false → 1 ≤ length (loaded w c st)
+  pub few : flagLeft (s .unit) ≤ 7 → 8 * passed w c st + flagLeft (s .unit) ≤ ticks w st + 7
 
 going-filled : {s : Framer} (v : ℕ) → Going s → Going (filledWith s v)
 going-filled v (opening k b f c) = opening k v true c
@@ -91,10 +94,10 @@ none-yet (closing k b f c) = (refl, refl)
 -- an event that is no tick, from what is so behind it; it changes no more of the sender than its buffer
 skip : (w : Which) (c : Chip) (x : Event) (st : List Event) (s t : Framer) → isTick w x ≡ false
     → ((n : ℕ) (bytes : List ℕ) → May t n bytes → May s n bytes)
-    → ((n : ℕ) (bytes : List ℕ) → ahead t n bytes ≡ ahead s n bytes) → (unopened s ≡ unopened t)
+    → ((n : ℕ) (bytes : List ℕ) → ahead t n bytes ≡ ahead s n bytes) → (unopened s ≡ unopened t) → (flagLeft (s .unit) ≡ flagLeft (t .unit))
     → Kept w (happens c x .chip) st t → Kept w c (x ∷ st) s
 unfolding after
-skip w c x st s t z m a u k =
+skip w c x st s t z m a u f k =
     let l = sym (skip-loaded w c x st z) in
     let p = sym (skip-passed w c x st z) in
     record {
@@ -104,10 +107,11 @@ skip w c x st s t z m a u k =
       may-be = subst (May s (passed w c (x ∷ st))) l (subst (λ (n : ℕ). May s n (loaded w (happens c x .chip) st)) p (m _ _ (k .may-be)));
       whole = ap (λ (b : List Bool). b ++ ahead (k .last) 0 []) (skip-line w c x st z) ∙ k .whole ∙ a _ _ ∙ ap₂ (ahead s) p l;
       some = λ o v. subst (λ (b : List ℕ). 1 ≤ length b) l (k .some (sym u ∙ o) v);
+      few = λ h. omega (arith, skip-ticks w x st z, ap (λ (n : ℕ). 8 * n) p, f, k .few (subst (λ (n : ℕ). n ≤ 7) f h));
     }
 
 pub kept : (w : Which) {c : Chip} {st : List Event} → Host w c st → (s : Framer) → sideOf w c ≡ side s good → Going s → Kept w c st s
-unfolding lineOf after loaded passed
+unfolding lineOf after loaded passed ticks
 kept w rests s e g = record {
   last = s;
   there = e;
@@ -115,11 +119,12 @@ kept w rests s e g = record {
   may-be = none-yet g;
   whole = refl;
   some = λ o u. void (sym u ∙ o);
+  few = λ h. omega arith;
 }
 kept w (still {c = c} {e = x} {st = st} r k h) s e g =
-    skip w c x st s s (ap ticksBy r) (λ n bytes m. m) (λ n bytes. refl) refl (kept w h s (k ∙ e) g)
+    skip w c x st s s (ap ticksBy r) (λ n bytes m. m) (λ n bytes. refl) refl refl (kept w h s (k ∙ e) g)
 kept w (writes {c = c} {v = v} {st = st} h) s e g =
-    skip w c (DataWrite (number w) v) st s (filledWith s v) (write-no-tick w v) (λ n bytes m. m) (λ n bytes. refl) refl
+    skip w c (DataWrite (number w) v) st s (filledWith s v) (write-no-tick w v) (λ n bytes m. m) (λ n bytes. refl) refl refl
     (kept w h (filledWith s v) (write-side w c v ∙ ap (λ (x : SenderSide). side (filledWith (x .sender) v) (x .heeds)) e) (going-filled v g))
 kept w (ticking {c = c} {st = st} f h) s e g =
     let d = happens c (Transmit (number w)) .chip in
@@ -147,11 +152,13 @@ kept w (ticking {c = c} {st = st} f h) s e g =
           (bool-or (unopened (t .next))
           (λ i. omega (arith, k .some i u, length-append (leaves s (t .next)) (loaded w d st)))
           (λ i. omega (arith, ap length (t .first o i), length-append (leaves s (t .next)) (loaded w d st))));
+      few = λ i. omega (arith, tick-more w st, ap (λ (j : ℕ). 8 * j) p,
+          t .few (passed w d st) (ticks w st) (loaded w d st) (k .may-be) (k .few (t .inside i)) i);
     }
 
 -- The theorem
 
-flags-swap : (n : ℕ) (xs : List Bool) → flagBits ++ (flags n ++ xs) ≡ flags n ++ (flagBits ++ xs)
+pub flags-swap : (n : ℕ) (xs : List Bool) → flagBits ++ (flags n ++ xs) ≡ flags n ++ (flagBits ++ xs)
 unfolding flags
 flags-swap zero xs = refl
 flags-swap (suc n) xs = ap (λ (l : List Bool). flagBits ++ l) (flags-swap n xs)
@@ -173,6 +180,31 @@ ended-none (inCheck k x r o b f c) e = void e
 ended-none (closing zero b f c) e = (refl, refl)
 ended-none (closing (suc k) b f c) e = void (sym (eqb·suc-zero k) ∙ e)
 
+not-aborting : {s : Framer} → Going s → aborting (s .unit) ≡ false
+not-aborting (opening k b f c) = refl
+not-aborting (inByte k x r o b f c) = refl
+not-aborting (inCheck k x r o b f c) = refl
+not-aborting (closing k b f c) = refl
+
+closed-some : (r c : ℕ) (bits : List Bool) (bytes : List ℕ) → 8 ≤ length (come.closed r c bits bytes)
+unfolding come.closed
+closed-some r c bits bytes =
+    let text = textBits 8 bytes in
+    omega (arith, length-append (stuff r (bits ++ (text ++ checkBits (checkOver sdlc c text)))) flagBits)
+
+-- and something before its end
+unended-some : {s : Framer} → Going s → frameEnded s ≡ false → 1 ≤ length (ahead s 0 [])
+unended-some (opening zero b f c) e = unfold flags in (omega (arith, closed-some 0 c [] []))
+unended-some (opening (suc k) b f c) e = omega arith
+unended-some (inByte k v r o b f c) e =
+    let bits = come.closed r c (lowBits k v) [] in
+    omega (arith, length-append (zeroIf o) bits, closed-some r c (lowBits k v) [])
+unended-some (inCheck k v r o b f c) e =
+    let bits = stuff r (topBits k v) in
+    omega (arith, length-append (zeroIf o) (bits ++ flagBits), length-append bits flagBits)
+unended-some (closing (suc k) b f c) e = omega arith
+unended-some (closing zero b f c) e = void (sym e)
+
 pub every-host : EveryHost
 every-host w c p st s h =
     let b = chan w c .sender .shared .buffer in
@@ -187,6 +219,10 @@ every-host w c p st s h =
       begun = sym (take-at sent rest (p + ticks w st) (sent-length w c p st (s .inside))) ∙ ap (take (p + ticks w st)) q;
       whole = λ e. sym (ap (λ (l : List Bool). sent ++ l) (ended-none (k .going) (sym there ∙ e) .0) ∙ append-nil sent) ∙ q;
       some = λ e. k .some refl (ended-none (k .going) (sym there ∙ e) .1);
+      unfinished = λ e. omega (arith, unended-some (k .going) (sym there ∙ e), ap length q, length-append sent rest, sent-length w c p st (s .inside));
+      begins = omega (arith, k .few (omega (arith, s .some)), s .inside, s .some);
+      heeds = ap (λ (x : SenderSide). x .heeds) (k .there);
+      uncut = ap (λ (x : SenderSide). aborting (x .sender .unit)) (k .there) ∙ not-aborting (k .going);
     }
 
 -- A free host's story begins with one of these

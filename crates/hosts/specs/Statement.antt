@@ -4,15 +4,17 @@ use mathlib.Core.Path.{_≡_}
 use mathlib.Core.Logic.{_≢_}
 use mathlib.Core.Bool.{true, false}
 use mathlib.Core.List.{List, [], _∷_, _++_}
-use Prim.Native.Nat.{ℕ, _+_, _-_, _*_, _≤_}
+use Prim.Native.Nat.{ℕ, _+_, _-_, _*_, _≤_, _<_}
 use lib.ListN.{length, take}
 use Rattle.line.specs.Bits.{Below}
 use Rattle.line.specs.Frame.{frame, zerosOf}
+use Rattle.sdlc.specs.Sending.{aborting}
 use Rattle.chip.specs.declared.Chip.{Chip}
 use Rattle.chip.specs.Event.{Event, Transmit}
 use Rattle.whole.specs.Start.{flagHead}
 use Rattle.stories.specs.Story.{Which, number, chan, happens, after}
 use Rattle.stories.specs.Sent.{lineOf, ticks, d6}
+use Rattle.history.specs.Sending.Side.{good, sideOf}
 use Rattle.timely.specs.Start.{Start}
 use Rattle.timely.specs.InTime.{InTime}
 use Rattle.timely.specs.Free.{Free}
@@ -27,6 +29,13 @@ pub record Carried (w : Which) (c : Chip) (p : ℕ) (st : List Event) : Type 0 w
   pub whole : closed w (after c st) ≡ true
       → flagHead p ++ lineOf w c st ≡ flags (passed w c st) ++ frame (loaded w c st)
   pub some : closed w (after c st) ≡ true → 1 ≤ length (loaded w c st)
+  -- before that it is not all of it, and the last flag that opens it is begun; no abort is under way, and the sender
+  -- is as it was set
+  pub unfinished : closed w (after c st) ≡ false
+      → p + ticks w st < length (flags (passed w c st) ++ frame (loaded w c st))
+  pub begins : 8 * passed w c st < p + ticks w st
+  pub heeds : sideOf w (after c st) .heeds ≡ good
+  pub uncut : aborting (sideOf w (after c st) .sender .unit) ≡ false
 
 abbrev pub EveryHost : Type 0
 EveryHost = (w : Which) (c : Chip) (p : ℕ) (st : List Event) → Start w c p → Host w c st → Carried w c p st

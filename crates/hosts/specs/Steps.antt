@@ -3,7 +3,8 @@
 use mathlib.Core.Path.{_≡_, refl, sym, ap, _∙_}
 use mathlib.Core.Bool.{Bool, true, false, not, _&&_}
 use mathlib.Core.List.{List, [], _∷_, _++_}
-use Prim.Native.Nat.{ℕ, zero, suc, _/_}
+use Prim.Native.Nat.{ℕ, zero, suc, _+_, _*_, _/_, _≤_}
+use native.Mathlib.Omega.{arith}
 use lib.Dec.{eqb·suc-zero}
 use Rattle.common.specs.Choice.{if_then_else_}
 use Rattle.common.specs.Tools.{void}
@@ -71,6 +72,14 @@ flagUnit (Byte n v) = false
 flagUnit (Check n v) = false
 flagUnit (Abort n) = false
 
+-- the bits that are left of a flag
+abbrev pub flagLeft : LineUnit → ℕ
+flagLeft Mark = 0
+flagLeft (Flag n) = n
+flagLeft (Byte n v) = 0
+flagLeft (Check n v) = 0
+flagLeft (Abort n) = 0
+
 abbrev pub unopened : Framer → Bool
 unopened s = not (s .shared .latch) && flagUnit (s .unit)
 
@@ -86,6 +95,9 @@ pub record Steps (s : Framer) : Type 0 where
       → ahead s (onMore (idles s) n) (leaves s next ++ bytes) ≡ sent ∷ ahead next n bytes
   pub kept : (rest : List ℕ) → (next .shared .latch ≡ true → s .shared .latch ≡ false → rest ≡ [])
       → leaves s next ++ meant next rest ≡ meant s rest
+  pub inside : flagLeft (s .unit) ≤ 7 → flagLeft (next .unit) ≤ 7
+  pub few : (n t : ℕ) (bytes : List ℕ) → May next n bytes → 8 * n + flagLeft (next .unit) ≤ t + 7
+      → flagLeft (s .unit) ≤ 7 → 8 * onMore (idles s) n + flagLeft (s .unit) ≤ suc t + 7
   pub first : unopened s ≡ true → unopened next ≡ false → leaves s next ≡ s .shared .buffer ∷ []
 
 pub steps : {s : Framer} → Going s → frameEnded s ≡ false → Steps s
@@ -101,6 +113,8 @@ steps (opening (suc k) b true c) e =
       may-be = λ n bytes m. tt;
       head = λ n bytes m. refl;
       kept = λ rest h. refl;
+      inside = λ h. omega arith;
+      few = λ n t bytes m l h. omega arith;
       first = λ o u. void (sym u);
     }
 steps (opening (suc k) b false c) e =
@@ -115,6 +129,8 @@ steps (opening (suc k) b false c) e =
       may-be = λ n bytes m. tt;
       head = λ n bytes m. rw z;
       kept = λ rest h. refl;
+      inside = λ h. omega arith;
+      few = λ n t bytes m l h. rw z (omega arith);
       first = λ o u. void (sym u);
     }
 steps (opening zero b true c) e =
@@ -130,6 +146,8 @@ steps (opening zero b true c) e =
       may-be = λ n bytes m. tt;
       head = λ n bytes m. ap (λ (j : ℕ). flags j ++ come.closed 0 c [] (b ∷ bytes)) m ∙ load 0 c b bytes;
       kept = λ rest h. refl;
+      inside = λ h. omega arith;
+      few = λ n t bytes m l h. omega (arith, m);
       first = λ o u. refl;
     }
 steps (opening zero b false c) e =
@@ -143,6 +161,8 @@ steps (opening zero b false c) e =
       may-be = λ n bytes m. tt;
       head = λ n bytes m. refl;
       kept = λ rest h. refl;
+      inside = λ h. omega arith;
+      few = λ n t bytes m l h. omega arith;
       first = λ o u. void (sym u);
     }
 steps (inByte k v r true b true c) e =
@@ -156,6 +176,8 @@ steps (inByte k v r true b true c) e =
       may-be = λ n bytes m. m;
       head = λ n bytes m. refl;
       kept = λ rest h. refl;
+      inside = λ h. omega arith;
+      few = λ n t bytes m l h. omega (arith, m);
       first = λ o u. void o;
     }
 steps (inByte k v r true b false c) e =
@@ -169,6 +191,8 @@ steps (inByte k v r true b false c) e =
       may-be = λ n bytes m. m;
       head = λ n bytes m. refl;
       kept = λ rest h. refl;
+      inside = λ h. omega arith;
+      few = λ n t bytes m l h. omega (arith, m);
       first = λ o u. void o;
     }
 steps (inByte (suc k) v r false b true c) e =
@@ -183,6 +207,8 @@ steps (inByte (suc k) v r false b true c) e =
       may-be = λ n bytes m. m;
       head = λ n bytes m. byte-on r c k v bytes;
       kept = λ rest h. refl;
+      inside = λ h. omega arith;
+      few = λ n t bytes m l h. omega (arith, m);
       first = λ o u. void o;
     }
 steps (inByte (suc k) v r false b false c) e =
@@ -197,6 +223,8 @@ steps (inByte (suc k) v r false b false c) e =
       may-be = λ n bytes m. m;
       head = λ n bytes m. byte-on r c k v bytes;
       kept = λ rest h. refl;
+      inside = λ h. omega arith;
+      few = λ n t bytes m l h. omega (arith, m);
       first = λ o u. void o;
     }
 steps (inByte zero v r false b true c) e =
@@ -212,6 +240,8 @@ steps (inByte zero v r false b true c) e =
       may-be = λ n bytes m. m;
       head = λ n bytes m. unfold lowBits in (load r c b bytes);
       kept = λ rest h. refl;
+      inside = λ h. omega arith;
+      few = λ n t bytes m l h. omega (arith, m);
       first = λ o u. void o;
     }
 steps (inByte zero v r false b false c) e =
@@ -227,6 +257,8 @@ steps (inByte zero v r false b false c) e =
       may-be = λ n bytes m. m .0;
       head = λ n bytes m. unfold lowBits in (ap (come.closed r c []) (m .1) ∙ check-starts r c);
       kept = λ rest h. sym (h refl refl);
+      inside = λ h. omega arith;
+      few = λ n t bytes m l h. omega (arith, m .0);
       first = λ o u. void o;
     }
 steps (inCheck k v r true b true c) e =
@@ -240,6 +272,8 @@ steps (inCheck k v r true b true c) e =
       may-be = λ n bytes m. m;
       head = λ n bytes m. refl;
       kept = λ rest h. refl;
+      inside = λ h. omega arith;
+      few = λ n t bytes m l h. omega (arith, m .0);
       first = λ o u. void o;
     }
 steps (inCheck (suc k) v r false b true c) e =
@@ -254,6 +288,8 @@ steps (inCheck (suc k) v r false b true c) e =
       may-be = λ n bytes m. m;
       head = λ n bytes m. unfold topBits in (stuffed r (top v) (topBits k (shifted v)) flagBits);
       kept = λ rest h. refl;
+      inside = λ h. omega arith;
+      few = λ n t bytes m l h. omega (arith, m .0);
       first = λ o u. void o;
     }
 steps (inCheck zero v r false b true c) e =
@@ -267,6 +303,8 @@ steps (inCheck zero v r false b true c) e =
       may-be = λ n bytes m. m;
       head = λ n bytes m. unfold topBits stuff in refl;
       kept = λ rest h. refl;
+      inside = λ h. omega arith;
+      few = λ n t bytes m l h. omega (arith, m .0);
       first = λ o u. void o;
     }
 steps (closing (suc k) b true c) e =
@@ -280,6 +318,8 @@ steps (closing (suc k) b true c) e =
       may-be = λ n bytes m. m;
       head = λ n bytes m. refl;
       kept = λ rest h. refl;
+      inside = λ h. omega arith;
+      few = λ n t bytes m l h. omega (arith, m .0);
       first = λ o u. void o;
     }
 steps (inCheck k v r true b false c) e =
@@ -293,6 +333,8 @@ steps (inCheck k v r true b false c) e =
       may-be = λ n bytes m. m;
       head = λ n bytes m. refl;
       kept = λ rest h. refl;
+      inside = λ h. omega arith;
+      few = λ n t bytes m l h. omega (arith, m .0);
       first = λ o u. void o;
     }
 steps (inCheck (suc k) v r false b false c) e =
@@ -307,6 +349,8 @@ steps (inCheck (suc k) v r false b false c) e =
       may-be = λ n bytes m. m;
       head = λ n bytes m. unfold topBits in (stuffed r (top v) (topBits k (shifted v)) flagBits);
       kept = λ rest h. refl;
+      inside = λ h. omega arith;
+      few = λ n t bytes m l h. omega (arith, m .0);
       first = λ o u. void o;
     }
 steps (inCheck zero v r false b false c) e =
@@ -320,6 +364,8 @@ steps (inCheck zero v r false b false c) e =
       may-be = λ n bytes m. m;
       head = λ n bytes m. unfold topBits stuff in refl;
       kept = λ rest h. refl;
+      inside = λ h. omega arith;
+      few = λ n t bytes m l h. omega (arith, m .0);
       first = λ o u. void o;
     }
 steps (closing (suc k) b false c) e =
@@ -333,6 +379,8 @@ steps (closing (suc k) b false c) e =
       may-be = λ n bytes m. m;
       head = λ n bytes m. refl;
       kept = λ rest h. refl;
+      inside = λ h. omega arith;
+      few = λ n t bytes m l h. omega (arith, m .0);
       first = λ o u. void o;
     }
 steps (closing zero b f c) e = void (sym e)
