@@ -3,7 +3,7 @@
 use mathlib.Core.Path.{_≡_, refl, sym, ap, ap₂, _∙_, subst}
 use mathlib.Core.Bool.{Bool, true, false, _&&_}
 use mathlib.Core.List.{List, [], _∷_, _++_, append-assoc, append-nil}
-use Prim.Native.Nat.{ℕ, zero, suc, _+_, _-_, _*_, _≤_, _<_}
+use Prim.Native.Nat.{ℕ, zero, suc, _+_, _-_, _*_, _≤_}
 use native.Mathlib.Omega.{arith}
 use lib.Dec.{eqb·suc-zero}
 use lib.ListN.{length, take, length-append}
@@ -152,8 +152,12 @@ kept w (ticking {c = c} {st = st} f h) s e g =
           (bool-or (unopened (t .next))
           (λ i. omega (arith, k .some i u, length-append (leaves s (t .next)) (loaded w d st)))
           (λ i. omega (arith, ap length (t .first o i), length-append (leaves s (t .next)) (loaded w d st))));
-      few = λ i. omega (arith, tick-more w st, ap (λ (j : ℕ). 8 * j) p,
-          t .few (passed w d st) (ticks w st) (loaded w d st) (k .may-be) (k .few (t .inside i)) i);
+      few = λ i. omega (
+        arith,
+        tick-more w st,
+        ap (λ (j : ℕ). 8 * j) p,
+        t .few (passed w d st) (ticks w st) (loaded w d st) (k .may-be) (k .few (t .inside i)) i,
+      );
     }
 
 -- The theorem
@@ -173,7 +177,7 @@ at-start p b n bytes h l =
     ∙ flags-swap n (come.closed 0 ones [] bytes)
 
 -- nothing comes behind the closing flag
-ended-none : {s : Framer} → Going s → frameEnded s ≡ true → (ahead s 0 [] ≡ []) × (unopened s ≡ false)
+pub ended-none : {s : Framer} → Going s → frameEnded s ≡ true → (ahead s 0 [] ≡ []) × (unopened s ≡ false)
 ended-none (opening k b f c) e = void e
 ended-none (inByte k x r o b f c) e = void e
 ended-none (inCheck k x r o b f c) e = void e
