@@ -37,10 +37,10 @@ tick-frames w c e =
     tick-sdlc g s (ap (λ (h : Heeded). h .mode) e)
     ∙ ap (λ (h : Heeded). withBreak (h .broken) (byFramer s (tickSdlc (h .framing) (framerOf s)))) e
 
-abbrev ticksTo : Which → Chip → Ticked → SenderSide
+abbrev pub ticksTo : Which → Chip → Ticked → SenderSide
 ticksTo w c t = side (framerOf (t .sender)) (sideOf w c .heeds)
 
-ticks-to : (w : Which) (c : Chip) → let g = sendingIn (chan w c) in
+pub ticks-to : (w : Which) (c : Chip) → let g = sendingIn (chan w c) in
     sideOf w (happens c (Transmit (number w)) .chip) ≡ ticksTo w c (tick g (chan w c .sender))
 unfolding transmitCall transmitTick settled
 ticks-to A c = refl
@@ -55,7 +55,7 @@ level-bit : (b : Bool) → onLevel (oneIf b) ≡ b
 level-bit true = refl
 level-bit false = refl
 
-tick-gives : (w : Which) (c : Chip)
+pub tick-gives : (w : Which) (c : Chip)
     → lineBit (isTick w (Transmit (number w))) (happens c (Transmit (number w)) .answer)
     ≡ tick (sendingIn (chan w c)) (chan w c .sender) .bit ∷ []
 unfolding transmitCall transmitTick
