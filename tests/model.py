@@ -1,5 +1,5 @@
 #!/usr/bin/env python3
-"""A second model of the chip, the line and the list, written from document 01 and its readings alone, without sight of the product's code.
+"""A second model of the chip, the line and the list, written from documents 01 and 02 and their readings alone, without sight of the product's code.
 
     model.py < EVENTS        prints what the program `trace` must print for these events
 
@@ -9,6 +9,7 @@ import sys
 
 CHARACTER_WAITS, ANY_PENDING, BUFFER_EMPTY, DCD, HUNT, CTS, UNDERRUN, BREAK_ABORT = (1 << d for d in range(8))
 LENGTHS = (5, 7, 6, 8)
+SHAPES = (('1111000', 1), ('111000', 2), ('11000', 3), ('1000', 4))
 GOOD = 0x1D0F
 
 
@@ -162,9 +163,19 @@ class Channel:
             self.owed = self.run == 5
         return bit
 
+    def count_sent(self, value):
+        """How many low bits of a byte go out; with length 00 its shape says it."""
+        if self.wr[5] & 0x60:
+            return LENGTHS[self.wr[5] >> 5 & 3]
+        for above, count in SHAPES:
+            if f'{value:08b}'.startswith(above):
+                return count
+        return 5
+
     def async_bit(self):
         if not self.bits and self.sender_on() and self.full:
-            data = low_first(self.load(), LENGTHS[self.wr[5] >> 5 & 3])
+            value = self.load()
+            data = low_first(value, self.count_sent(value))
             parity = [(sum(data) + (0 if self.wr[4] & 2 else 1)) % 2] if self.wr[4] & 1 else []
             self.bits = [0] + data + parity + [1] * (2 if self.wr[4] & 0x0C == 0x0C else 1)
         return self.bits.pop(0) if self.bits else 1
@@ -200,7 +211,7 @@ class Channel:
 
     def data_read(self):
         if not self.queue:
-            return 0
+            raise Refused(10)
         entry = self.queue.pop(0)
         self.armed = False
         if self.queue:

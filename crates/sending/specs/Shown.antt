@@ -22,7 +22,6 @@ use Rattle.channel.specs.declared.Side.{Side}
 use Rattle.status.specs.declared.Status.{Status}
 use Rattle.channel.specs.declared.Channel.{Channel}
 use Rattle.channel.specs.declared.Answered.{Answered}
-use Rattle.channel.specs.declared.DataRead.{DataRead as DataTaken}
 use Rattle.status.specs.Status.{changed, noticed, shownBits, afresh}
 use Rattle.channel.specs.Channel.{withStatus, liveOf, settled}
 use Rattle.channel.specs.Control.{commanded, preset, commandStep, presetStep, writeWr0, setWr2}
@@ -190,9 +189,9 @@ event-shown B c (ControlRead ch) l h = by-channel (ShownIn B) c ch (λ z. h) (λ
 event-shown A c (DataWrite ch v) l h = by-channel (ShownIn A) c ch (λ z. h) (λ e z. h) (λ e z. h)
 event-shown B c (DataWrite ch v) l h = by-channel (ShownIn B) c ch (λ z. h) (λ e z. h) (λ e z. h)
 event-shown A c (DataRead ch) l h =
-    by-channel (ShownIn A) c ch (λ z. h) (λ e z. if-elim (λ (x : DataTaken). Shows (x .channel .status)) (waits (c .a .queue)) h h) (λ e z. h)
+    by-channel (ShownIn A) c ch (λ z. h) (λ e z. if-elim (λ (x : Answered). Shows (x .channel .status)) (waits (c .a .queue)) h h) (λ e z. h)
 event-shown B c (DataRead ch) l h =
-    by-channel (ShownIn B) c ch (λ z. h) (λ e z. h) (λ e z. if-elim (λ (x : DataTaken). Shows (x .channel .status)) (waits (c .b .queue)) h h)
+    by-channel (ShownIn B) c ch (λ z. h) (λ e z. h) (λ e z. if-elim (λ (x : Answered). Shows (x .channel .status)) (waits (c .b .queue)) h h)
 event-shown A c (Transmit ch) l h = by-channel (ShownIn A) c ch (λ z. h) (λ e. settled-shown (c .a) _ h) (λ e z. h)
 event-shown B c (Transmit ch) l h = by-channel (ShownIn B) c ch (λ z. h) (λ e z. h) (λ e. settled-shown (c .b) _ h)
 event-shown A c (Receive ch bit) l h =

@@ -5,7 +5,7 @@ use mathlib.Core.List.{List, [], _∷_, _++_}
 use Prim.Native.Nat.{ℕ}
 use lib.Dec.{eqb, leb}
 use Rattle.common.specs.Choice.{if_then_else_}
-use Rattle.common.specs.Tools.{eqb-elim, by-test, if-elim, void}
+use Rattle.common.specs.Tools.{eqb-elim, by-test, bool-or, if-elim, void}
 use Rattle.common.specs.declared.Mode.the-variants.{Sdlc}
 use Rattle.entry.specs.declared.Entry.{Entry}
 use Rattle.queue.specs.declared.Queue.{Queue}
@@ -18,22 +18,21 @@ use Rattle.receiver.specs.declared.Heard.{Heard}
 use Rattle.receiver.specs.Receiver.{listenerOf}
 use Rattle.receiver.specs.Laws.Tick.{hear-sdlc}
 use Rattle.settings.specs.Settings.{receivingOf}
-use Rattle.channel.specs.declared.Answer.the-variants.{Done, Gave, Refused}
-use Rattle.channel.specs.declared.Taken.the-variants.{Byte, Nothing}
+use Rattle.channel.specs.declared.Answer.the-variants.{Done, Refused}
+use Rattle.channel.specs.declared.Answered.{Answered}
 use Rattle.channel.specs.declared.Channel.{Channel}
-use Rattle.channel.specs.Channel.{answered, withQueue, withArmed, settled}
+use Rattle.channel.specs.Channel.{answered, settled}
 use Rattle.channel.specs.Events.{dataRead, queued, receiveTick}
 use Rattle.chip.specs.declared.Chip.{Chip}
 use Rattle.chip.specs.declared.Outcome.{Outcome}
-use Rattle.chip.specs.Chip.{inA, inB, takenValue, onLevel, dataReadCall, receiveCall}
+use Rattle.chip.specs.Chip.{inA, inB, onLevel, dataReadCall, receiveCall}
 use Rattle.chip.specs.Event.{Event, HardReset, ControlWrite, ControlRead, DataWrite, DataRead}
 use Rattle.chip.specs.Event.{Transmit, Receive, SetLines, Acknowledge, Reti}
 use Rattle.stories.specs.Story.{Which, A, B, number, chan, happens}
-use Rattle.stories.specs.Received.{Role, Hears, Reads, Else, role, taking, valueIf, valuesOf}
+use Rattle.stories.specs.Received.{Role, Hears, Reads, Else, role, isRead, taking, valueIf, valuesOf}
 use Rattle.stories.specs.Received.{tookOf, bytesOf}
 use Rattle.history.specs.Receiving.Side.{Side, side, sideIn, sideOf}
 use Rattle.common.specs.declared.Refusal.the-variants as refusal
-use Rattle.channel.specs.declared.DataRead as read
 
 -- what a tick hands over is queued
 abbrev pub queuedBy : Queue → Listened → Queue
@@ -83,7 +82,7 @@ taken-none q e = by-test (λ (x : Queue). x ≡ q) (eqb (q .count) 0) (λ t. ref
 read-in : (c : Channel) → sideIn (dataRead c .channel) ≡ readSide (sideIn c)
 unfolding dataRead
 read-in c =
-    by-test (λ (d : read.DataRead). sideIn (d .channel) ≡ readSide (sideIn c)) (waits (c .queue)) (λ e. refl)
+    by-test (λ (d : Answered). sideIn (d .channel) ≡ readSide (sideIn c)) (waits (c .queue)) (λ e. refl)
     (λ e. ap (λ (q : Queue). side (listenerOf (c .receiver)) q (receivingOf (c .registers) (c .lines))) (sym (taken-none (c .queue) e)))
 
 read-follows : (w : Which) (c : Chip) → Follows w c (happens c (DataRead (number w)) .chip) Reads
@@ -117,15 +116,12 @@ bytes-append [] ys = refl
 bytes-append (x ∷ xs) ys = ap (λ (l : List ℕ). x .byte ∷ l) (bytes-append xs ys)
 
 abbrev Answers : Which → Chip → Outcome → Role → Type 0
-Answers w c o r = bytesOf (entryIf (taking w c r) (oldest (chan w c .queue))) ≡ valueIf (taking w c r) (o .answer)
+Answers w c o r = bytesOf (entryIf (taking w c r) (oldest (chan w c .queue))) ≡ valueIf (isRead r) (o .answer)
 
-read-gives : (c : Channel) → let q = c .queue in bytesOf (entryIf (waits q) (oldest q)) ≡ valueIf (waits q) (Gave (takenValue (dataRead c .taken)))
+read-gives : (c : Channel)
+    → let q = c .queue in bytesOf (entryIf (waits q) (oldest q)) ≡ valueIf true (dataRead c .answer)
 unfolding bytesOf dataRead
-read-gives c =
-    let q = c .queue in
-    let took : read.DataRead = record { taken = Byte (oldest q .byte); channel = withArmed (withQueue c (taken q)) false } in
-    let none : read.DataRead = record { taken = Nothing; channel = c } in
-    elim (waits q) as (λ t. bytesOf (entryIf t (oldest q)) ≡ valueIf t (Gave (takenValue ((if t then took else none) .taken)))) [ true ↦ refl | false ↦ refl ]
+read-gives c = bool-or (waits (c .queue)) (λ e. rw e) (λ e. rw e)
 
 read-answers : (w : Which) (c : Chip) → Answers w c (happens c (DataRead (number w))) Reads
 unfolding dataReadCall

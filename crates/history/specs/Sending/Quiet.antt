@@ -21,7 +21,6 @@ use Rattle.settings.specs.Settings.{autoEnables, modeOf, notBuilt, sends, sendi
 use Rattle.channel.specs.declared.Side.{Side}
 use Rattle.channel.specs.declared.Channel.{Channel}
 use Rattle.channel.specs.declared.Answered.{Answered}
-use Rattle.channel.specs.declared.DataRead.{DataRead as DataTaken}
 use Rattle.channel.specs.Channel.{withRegisters, withSender, settled, resetWith}
 use Rattle.channel.specs.Control.{commanded, preset, commandStep, presetStep, writeWr0, setWr2}
 use Rattle.channel.specs.Control.{setWr3, setWr4, sameMode, setRegister, controlWritten}
@@ -213,7 +212,7 @@ lines-keep c dcd cts q =
 
 read-keeps : (c : Channel) → Keeps c (dataRead c .channel)
 unfolding dataRead
-read-keeps c = if-elim (λ (x : DataTaken). Keeps c (x .channel)) (waits (c .queue)) refl refl
+read-keeps c = if-elim (λ (x : Answered). Keeps c (x .channel)) (waits (c .queue)) refl refl
 
 receive-keeps : (c : Channel) (b : Bool) → Keeps c (receiveTick c b)
 unfolding receiveTick settled
