@@ -21,10 +21,13 @@ pub record AllowsLent {I R : Type 0} (f : I → R) (g : I → List ℕ) (i : I) 
   pub result : Allows f i (x .result)
   pub lent : Allows g i (x .lent)
 
-pub one-left : {I R : Type 0} (f : I → R) (g : I → List ℕ) (i : I) (x y : Left R) → AllowsLent f g i x → AllowsLent f g i y
-    → x ≡ y
+pub one-left : {I R : Type 0} (f : I → R) (g : I → List ℕ) (i : I) (x y : Left R)
+    → AllowsLent f g i x → AllowsLent f g i y → x ≡ y
 one-left f g i x y p q =
-    λ j. record { result = one-result f i (x .result) (y .result) (p .result) (q .result) j; lent = one-result g i (x .lent) (y .lent) (p .lent) (q .lent) j }
+    λ j. record {
+      result = one-result f i (x .result) (y .result) (p .result) (q .result) j;
+      lent = one-result g i (x .lent) (y .lent) (p .lent) (q .lent) j;
+    }
 
 -- A part of a lent slice is handed back, and its bytes are a definition's value at the inputs
 

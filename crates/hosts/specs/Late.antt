@@ -79,7 +79,8 @@ module _ (w : Which) (c : Chip) (d : RunsDry w c) where
   dry-side =
       let s = chan w c .sender in
       let h = good-heeded (sendingIn (chan w c)) (d .settings) in
-      λ i. side (framer (d .byte i) (insertion (s .insertion .run) (d .paid i)) (shared (s .shared .buffer) (d .empty i) (d .cleared i) (s .shared .check))) (h i)
+      λ i. side (framer (d .byte i) (insertion (s .insertion .run) (d .paid i))
+      (shared (s .shared .buffer) (d .empty i) (d .cleared i) (s .shared .check))) (h i)
 
   abbrev checked : Framer
   checked =

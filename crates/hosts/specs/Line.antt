@@ -34,7 +34,7 @@ use Rattle.hosts.specs.Loaded.{senderOf, leaves, loads, loaded, idles, o
 use Rattle.hosts.specs.Loaded.{Host, rests, still, writes, ticking}
 use Rattle.hosts.specs.Steps.{Going, opening, inByte, inCheck, closing, ahead, May, unopened, flagLeft}
 use Rattle.hosts.specs.Steps.{steps}
-use Rattle.hosts.specs.Statement.{EveryHost, HostFront}
+use Rattle.hosts.specs.Statement.{EveryHost, Front, HostFront}
 
 -- What an event adds to what is loaded and to the flags that pass
 
@@ -142,7 +142,8 @@ kept w (ticking {c = c} {st = st} f h) s e g =
       last = k .last;
       there = k .there;
       going = k .going;
-      may-be = subst (May s (passed w c (Transmit (number w) ∷ st))) l (subst (λ (j : ℕ). May s j bytes) p (t .may-be (passed w d st) (loaded w d st) (k .may-be)));
+      may-be = subst (May s (passed w c (Transmit (number w) ∷ st))) l
+          (subst (λ (j : ℕ). May s j bytes) p (t .may-be (passed w d st) (loaded w d st) (k .may-be)));
       whole =
           ap (λ (b : List Bool). (b ++ lineOf w d st) ++ ahead (k .last) 0 []) (tick-bit w c heeds ∙ ap (λ (x : Framed). x .bit ∷ []) same)
           ∙ ap (λ (b : List Bool). t .sent ∷ b) (k .whole)
@@ -231,18 +232,29 @@ every-host w c p st s h =
 
 -- A free host's story begins with one of these
 
+-- one event more in front
+front-more : (w : Which) (c : Chip) (x : Event) (st : List Event) (i : Front w (happens c x .chip) st)
+    → Host w c (x ∷ i .front) → Front w c (x ∷ st)
+unfolding after
+front-more w c x st i h = record {
+  front = x ∷ i .front;
+  behind = i .behind;
+  joined = ap (λ (l : List Event). x ∷ l) (i .joined);
+  host = h;
+  ended = i .ended;
+}
+
 pub host-front : HostFront
 unfolding after
 host-front w c _ free.ended = record { front = []; behind = []; joined = refl; host = rests; ended = λ e. refl }
 host-front w c _ (free.still {e = x} {st = st} r k f) =
-    let i = host-front w (happens c x .chip) st f in
-    record { front = x ∷ i .front; behind = i .behind; joined = ap (λ (l : List Event). x ∷ l) (i .joined); host = still r k (i .host); ended = i .ended }
+    let i = host-front w (happens c x .chip) st f in front-more w c x st i (still r k (i .host))
 host-front w c _ (free.writes {v = v} {st = st} f) =
-    let i = host-front w (happens c (DataWrite (number w) v) .chip) st f in
-    record { front = DataWrite (number w) v ∷ i .front; behind = i .behind; joined = ap (λ (l : List Event). DataWrite (number w) v ∷ l) (i .joined); host = writes (i .host); ended = i .ended }
+    let x = DataWrite (number w) v in
+    let i = host-front w (happens c x .chip) st f in
+    front-more w c x st i (writes (i .host))
 host-front w c _ (free.ticking {st = st} f) =
+    let x = Transmit (number w) in
     bool-or (closed w c)
-    (λ z. record { front = []; behind = Transmit (number w) ∷ st; joined = refl; host = rests; ended = λ e. void (sym e ∙ z) })
-    (λ z.
-    let i = host-front w (happens c (Transmit (number w)) .chip) st f in
-    record { front = Transmit (number w) ∷ i .front; behind = i .behind; joined = ap (λ (l : List Event). Transmit (number w) ∷ l) (i .joined); host = ticking z (i .host); ended = i .ended })
+    (λ z. record { front = []; behind = x ∷ st; joined = refl; host = rests; ended = λ e. void (sym e ∙ z) })
+    (λ z. let i = host-front w (happens c x .chip) st f in front-more w c x st i (ticking z (i .host)))
