@@ -8,11 +8,13 @@ use lib.ListN.{length}
 use Rattle.common.specs.Choice.{if_then_else_}
 use Rattle.common.specs.Tools.{bool-or}
 use Rattle.line.specs.Line.{noteFits}
+use Rattle.flags.specs.declared.Between.{Between}
 use Rattle.notes.specs.NoteList.{Reading, whole, refuses, restFrom, firstNote, readList, scanned}
 use Rattle.report.specs.Report.{reported, reportOf, pagesOf, rowsIn}
 use Rattle.chip.specs.declared.Chip.{Chip}
 use Rattle.chip.specs.Refusals.{firstRow}
-use Rattle.station.specs.Station.{sendOf, listedOf, chipAfter}
+use Rattle.listline.specs.ListLine.{chipAfter}
+use Rattle.station.specs.Station.{sendOf, listedOf}
 use Rattle.refusing.specs.Refusing.{lengthBad, listLong, listNone, readingNumber, list-refused}
 use Rattle.answering.specs.Numbers.{scannedNumber, pagesNumber, toldNumber, listedNumber}
 
@@ -38,30 +40,31 @@ scan-number : (r : Reading) → scannedNumber (scanned r) ≡ readingNumber r
 scan-number (whole notes) = refl
 scan-number (refuses k) = refl
 
-pages-number : (r : Reading) → pagesNumber (pagesOf (reported r)) ≡ readingNumber r
-pages-number (whole notes) = refl
-pages-number (refuses k) = refl
+pages-number : (b : Between) (r : Reading) → pagesNumber (pagesOf (reported b r)) ≡ readingNumber r
+pages-number b (whole notes) = refl
+pages-number b (refuses k) = refl
 
-listed-number : (r : Reading) → listedNumber (listedOf (reported r)) ≡ readingNumber r
-listed-number (whole notes) = refl
-listed-number (refuses k) = refl
+listed-number : (b : Between) (r : Reading) → listedNumber (listedOf (reported b r)) ≡ readingNumber r
+listed-number b (whole notes) = refl
+listed-number b (refuses k) = refl
 
 pub scan-refused : (list : List ℕ) → scannedNumber (scanned (readList list)) ≡ listRows list
 scan-refused list = scan-number (readList list) ∙ list-refused list
 
-pub pages-refused : (list : List ℕ) → pagesNumber (pagesOf (reportOf list)) ≡ listRows list
-pages-refused list = pages-number (readList list) ∙ list-refused list
+pub pages-refused : (b : Between) (list : List ℕ) → pagesNumber (pagesOf (reportOf b list)) ≡ listRows list
+pages-refused b list = pages-number b (readList list) ∙ list-refused list
 
-pub send-list-refused : (list : List ℕ) → listedNumber (listedOf (reportOf list)) ≡ listRows list
-send-list-refused list = listed-number (readList list) ∙ list-refused list
+pub send-list-refused : (b : Between) (list : List ℕ)
+    → listedNumber (listedOf (reportOf b list)) ≡ listRows list
+send-list-refused b list = listed-number b (readList list) ∙ list-refused list
 
 -- the chip and the lent rows are then as before
 
-pub send-list-kept : (c : Chip) (list lent : List ℕ) → listedNumber (listedOf (reportOf list)) ≢ 0
-    → (chipAfter c (readList list) ≡ c) × (rowsIn lent (reportOf list) ≡ lent)
-send-list-kept c list lent = go (readList list)
+pub send-list-kept : (b : Between) (c : Chip) (list lent : List ℕ) → listedNumber (listedOf (reportOf b list)) ≢ 0
+    → (chipAfter b c (readList list) ≡ c) × (rowsIn lent (reportOf b list) ≡ lent)
+send-list-kept b c list lent = go (readList list)
   where
-    go : (r : Reading) → listedNumber (listedOf (reported r)) ≢ 0
-        → (chipAfter c r ≡ c) × (rowsIn lent (reported r) ≡ lent)
+    go : (r : Reading) → listedNumber (listedOf (reported b r)) ≢ 0
+        → (chipAfter b c r ≡ c) × (rowsIn lent (reported b r) ≡ lent)
     go (whole notes) n = absurd (n refl)
     go (refuses k) n = (refl, refl)

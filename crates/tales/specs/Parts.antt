@@ -1,7 +1,7 @@
 -- A channel with one part of a part changed, for the making of wrong chips: the parts that have
 -- more fields than a wrong chip wants to name. Assumes nothing.
 use mathlib.Core.Bool.{Bool}
-use mathlib.Core.List.{List, map}
+use mathlib.Core.List.{map}
 use Prim.Native.Nat.{ℕ}
 use Rattle.line.specs.declared.Insertion.{Insertion}
 use Rattle.entry.specs.declared.Entry.{Entry}
@@ -13,13 +13,10 @@ use Rattle.sdlc.specs.declared.LineUnit.{LineUnit}
 use Rattle.sdlc.specs.declared.Content.{Content}
 use Rattle.sdlc.specs.declared.Chars.{Chars}
 use Rattle.sdlc.specs.Hearing.{content}
-use Rattle.sender.specs.declared.Sender.{Sender}
 use Rattle.sender.specs.Sender.{sender, withShared}
-use Rattle.receiver.specs.declared.Receiver.{Receiver}
 use Rattle.receiver.specs.Receiver.{receiver}
-use Rattle.status.specs.declared.Live.{Live}
 use Rattle.status.specs.Status.{status}
-use Rattle.settings.specs.Settings.{store1, store3, store4, store5, store6}
+use Rattle.settings.specs.Settings.{store1, store3, store4, store5}
 use Rattle.channel.specs.declared.Channel.{Channel}
 use Rattle.channel.specs.Channel.{withRegisters, withSender, withReceiver, withQueue, withStatus}
 
@@ -36,9 +33,6 @@ withWr4 c v = withRegisters c (store4 (c .registers) v)
 
 abbrev pub withWr5 : Channel → ℕ → Channel
 withWr5 c v = withRegisters c (store5 (c .registers) v)
-
-abbrev pub withWr6 : Channel → ℕ → Channel
-withWr6 c v = withRegisters c (store6 (c .registers) v)
 
 -- The sender
 
@@ -98,11 +92,6 @@ withParity c p e =
       parity = p;
       even = e;
     })
-
-abbrev pub withHeardCheck : Channel → ℕ → Channel
-withHeardCheck c k =
-    let v = c .receiver in
-    withReceiver c (receiver (v .content) (v .assembly) k (v .broken))
 
 -- D7 of RR0, as it now is
 abbrev pub withBroken : Channel → Bool → Channel
