@@ -10,7 +10,7 @@ use Rattle.line.specs.Check.{differs}
 use Rattle.interrupts.specs.declared.Six.{Six}
 use Rattle.interrupts.specs.Interrupts.{acknowledged, ended}
 use Rattle.receiver.specs.Receiver.{listenerOf}
-use Rattle.settings.specs.Settings.{store5, store6, store7, commandIn, presetIn, autoEnables, modeOf}
+use Rattle.settings.specs.Settings.{store5, store6, store7, commandIn, presetIn, autoEnables, modeIn}
 use Rattle.settings.specs.Settings.{formatOf, notBuilt, receivingOf}
 use Rattle.channel.specs.declared.Side as channel
 use Rattle.channel.specs.declared.Side.the-variants as channels
@@ -145,7 +145,7 @@ unfolding linesSet settled receivingOf
 lines-kept c d t q =
     let r = c .registers in
     ap (λ (b : Bool). side (listenerOf (c .receiver)) (c .queue) (record {
-      mode = modeOf (r .wr4);
+      mode = modeIn r;
       on = odd (r .wr3) && b;
       addressing = record { search = odd (r .wr3 / 4); address = r .wr6 };
       format = formatOf r (r .wr3 / 64);

@@ -8,6 +8,7 @@ use Prim.Native.Nat.{ℕ, _+_, _≤_}
 use lib.Dec.{eqb, ltb}
 use lib.ListN.{length, take, drop}
 use Rattle.common.specs.Choice.{if_then_else_}
+use Rattle.common.specs.declared.Mode.{Mode}
 use Rattle.common.specs.declared.Mode.the-variants.{Sdlc}
 use Rattle.line.specs.Frame.{flagBits, contentOf, frame}
 use Rattle.line.specs.Bits.{Below}
@@ -15,6 +16,8 @@ use Rattle.entry.specs.declared.Entry.{Entry}
 use Rattle.queue.specs.declared.Queue.{Queue}
 use Rattle.queue.specs.Queue.{room, waits}
 use Rattle.queue.specs.Holding.{Holds}
+use Rattle.asynchronous.specs.declared.Format.{Format}
+use Rattle.sdlc.specs.declared.Addressing.{Addressing}
 use Rattle.sdlc.specs.declared.Listener.{Listener}
 use Rattle.sdlc.specs.declared.Listened.{Listened}
 use Rattle.sdlc.specs.Hearing.{pastFlag, hearSdlc}
@@ -32,18 +35,28 @@ use Rattle.stories.specs.Story.{Which, number, chan, happens, after}
 use Rattle.stories.specs.Received.{Hears, Reads, Else, role, bitsOf, valuesOf, tookOf, bytesOf, goodEnd, noEnd}
 
 -- The receiving side of a channel: SDLC's part of its receiver, the queue, and what registers and lines say
--- to the receiver
+-- to the receiver; what they say to Monosync and Bisync alone is left out
+
+pub record Heeded : Type 0 where
+  pub mode : Mode
+  pub on : Bool
+  pub addressing : Addressing
+  pub format : Format
+
+abbrev pub heeded : Receiving → Heeded
+heeded g = record { mode = g .mode; on = g .on; addressing = g .addressing; format = g .format }
 
 pub record Side : Type 0 where
   pub listener : Listener
   pub queue : Queue
-  pub settings : Receiving
+  pub settings : Heeded
 
-abbrev pub side : Listener → Queue → Receiving → Side
+abbrev pub side : Listener → Queue → Heeded → Side
 side s q g = record { listener = s; queue = q; settings = g }
 
 abbrev pub sideIn : Channel → Side
-sideIn c = side (listenerOf (c .receiver)) (c .queue) (receivingOf (c .registers) (c .lines))
+sideIn c =
+    side (listenerOf (c .receiver)) (c .queue) (heeded (receivingOf (c .registers) (c .lines)))
 
 abbrev pub sideOf : Which → Chip → Side
 sideOf w c = sideIn (chan w c)

@@ -7,7 +7,7 @@ use native.Mathlib.Omega.{arith}
 use lib.Dec.{eqb, leb}
 use Rattle.common.specs.Bit.{placed}
 use Rattle.common.specs.Choice.{if_then_else_}
-use Rattle.common.specs.Mode.{inSdlc}
+use Rattle.common.specs.Mode.{inSdlc, synchronous, sameMode}
 use Rattle.common.specs.Tools.{if-elim, by-test, void}
 use Rattle.line.specs.Bits.{odd}
 use Rattle.queue.specs.Queue.{waits}
@@ -17,7 +17,7 @@ use Rattle.sender.specs.declared.Sender.{Sender}
 use Rattle.sender.specs.Sender.{aborted, bufferReady}
 use Rattle.interrupts.specs.declared.Six.{Six}
 use Rattle.interrupts.specs.Interrupts.{acknowledged, ended}
-use Rattle.settings.specs.Settings.{commandIn, presetIn, entersHunt, modeOf, notBuilt}
+use Rattle.settings.specs.Settings.{commandIn, presetIn, entersHunt, modeOf, modeIn, notBuilt}
 use Rattle.channel.specs.declared.Side.{Side}
 use Rattle.channel.specs.declared.Side.the-variants as channels
 use Rattle.status.specs.declared.Status.{Status}
@@ -26,7 +26,7 @@ use Rattle.channel.specs.declared.Answered.{Answered}
 use Rattle.channel.specs.declared.DataRead.{DataRead as DataTaken}
 use Rattle.status.specs.Status.{changed, noticed, shownBits, afresh}
 use Rattle.channel.specs.Channel.{withStatus, liveOf, settled}
-use Rattle.channel.specs.Control.{commanded, preset, commandStep, presetStep, writeWr0, setWr2, sameMode, setWr4, setRegister, controlWritten, rr0, readRegister}
+use Rattle.channel.specs.Control.{commanded, preset, commandStep, presetStep, writeWr0, setWr2, setWr4, setRegister, controlWritten, rr0, readRegister}
 use Rattle.channel.specs.Events.{dataRead, transmitTick, receiveTick, linesSet}
 use Rattle.chip.specs.declared.Chip.{Chip}
 use Rattle.chip.specs.declared.Outcome.{Outcome}
@@ -137,8 +137,8 @@ wr0-shown c v l h =
 register-shows : (c : Channel) (s : Side) (p v : ℕ) → Shows (c .status) → Shows (setRegister c s p v .status)
 unfolding setRegister setWr4
 register-shows c s p v h =
-    if-elim StatusShows (eqb p 1) h (if-elim StatusShows (eqb p 2) (two s) (if-elim StatusShows (eqb p 3) (if-elim StatusShows (entersHunt v && inSdlc (modeOf (c .registers .wr4))) h h)
-    (if-elim StatusShows (eqb p 4) (if-elim StatusShows (sameMode (modeOf (c .registers .wr4)) (modeOf v)) h h) (if-elim StatusShows (eqb p 5) h (if-elim StatusShows (eqb p 6) h h)))))
+    if-elim StatusShows (eqb p 1) h (if-elim StatusShows (eqb p 2) (two s) (if-elim StatusShows (eqb p 3) (if-elim StatusShows (entersHunt v && synchronous (modeIn (c .registers))) h h)
+    (if-elim StatusShows (eqb p 4) (if-elim StatusShows (sameMode (modeIn (c .registers)) (modeOf v)) h h) (if-elim StatusShows (eqb p 5) h (if-elim StatusShows (eqb p 6) h h)))))
   where
     two : (s : Side) → Shows (setWr2 c s v .status)
     two channels.A = h
