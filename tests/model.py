@@ -241,7 +241,7 @@ class Channel:
 
     def data_read(self):
         if not self.queue:
-            return 0
+            raise Refused(10)
         entry = self.queue.pop(0)
         self.armed = False
         if self.queue:

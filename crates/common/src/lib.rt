@@ -25,6 +25,8 @@ pub enum Refusal {
     NoRoom,
     // 9: list longer than 65,535 bytes
     LongList,
+    // 10: data read with nothing waiting
+    NoCharacter,
 }
 
 impl Refusal {
@@ -42,6 +44,7 @@ impl Refusal {
             Refusal::CutList => 7,
             Refusal::NoRoom => 8,
             Refusal::LongList => 9,
+            Refusal::NoCharacter => 10,
         }
     }
 }

@@ -25,7 +25,6 @@ use Rattle.channel.specs.declared.Side.{Side}
 use Rattle.channel.specs.declared.Side.the-variants.{A, B}
 use Rattle.channel.specs.declared.Channel.{Channel}
 use Rattle.channel.specs.declared.Answered.{Answered}
-use Rattle.channel.specs.declared.DataRead.{DataRead}
 use Rattle.channel.specs.Channel.{withRegisters, withSender, withReceiver, withQueue, withLines}
 use Rattle.channel.specs.Channel.{withPointer, settled, resetWith}
 use Rattle.channel.specs.Control.{commanded, preset, commandStep, presetStep, writeWr0, setWr1}
@@ -160,7 +159,7 @@ data-write-sound c v h =
 pub data-read-sound : (c : Channel) → SoundChannel c → SoundChannel (dataRead c .channel)
 unfolding dataRead
 data-read-sound c h =
-    if-elim (λ (r : DataRead). SoundChannel (r .channel)) (waits (c .queue))
+    if-elim (λ (r : Answered). SoundChannel (r .channel)) (waits (c .queue))
     (queue-sound c (taken (c .queue)) h (queues.take-sound (c .queue) (h .queue))) h
 
 pub transmit-sound : (c : Channel) → SoundChannel c → SoundChannel (transmitTick c .channel)
