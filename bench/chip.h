@@ -406,7 +406,7 @@ static int data_write(struct chip *c, int ch, u8 v) {
 static int data_read(struct chip *c, int ch) {
     if (ch > 1) return REFUSED + 1;
     struct channel *x = &c->ch[ch];
-    if (!x->waiting) return 0;
+    if (!x->waiting) return REFUSED + 10;
     u8 v = x->queue[0].byte;
     for (int i = 0; i < QUEUE - 1; i++) x->queue[i] = x->queue[i + 1];
     x->armed = 0;

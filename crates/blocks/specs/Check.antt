@@ -5,10 +5,7 @@ use Prim.Native.Nat.{ℕ}
 use lib.ListN.{take, drop}
 use Rattle.line.specs.Bits.{textBits, fromLow}
 use Rattle.line.specs.Check.{checkOver, topBits}
-
--- a preset check
-abbrev pub zeros : ℕ
-zeros = 0
+use Rattle.shared.specs.Preset.{zeros}
 
 -- a text's check over the polynomial p, from the register c on
 abbrev pub checkFrom : ℕ → ℕ → List ℕ → ℕ

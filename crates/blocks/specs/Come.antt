@@ -19,7 +19,8 @@ use Rattle.bytesync.specs.declared.BlockUnit.{BlockUnit}
 use Rattle.bytesync.specs.declared.BlockUnit.the-variants.{Mark, Sync, Byte, Check}
 use Rattle.bytesync.specs.declared.Syncing.{Syncing}
 use Rattle.bytesync.specs.Sending.{syncSent, tickBlock}
-use Rattle.blocks.specs.Check.{zeros, checkFrom}
+use Rattle.shared.specs.Preset.{zeros}
+use Rattle.blocks.specs.Check.{checkFrom}
 
 -- the sender on, the check included; WR6 is a byte
 pub record Good (g : Syncing) : Type 0 where

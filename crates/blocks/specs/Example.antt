@@ -15,7 +15,8 @@ use Rattle.bytesync.specs.Syncs.{syncs, crc16}
 use Rattle.bytesync.specs.Sending.{syncing, following, tickBlock}
 use Rattle.bytesync.specs.Hearing.{block, receptionAt, searching, syncSeen, hunting, entering}
 use Rattle.bytesync.specs.Hearing.{arrived, assembling, hearBlock}
-use Rattle.blocks.specs.Check.{zeros, checkFrom, checkBytes}
+use Rattle.shared.specs.Preset.{zeros}
+use Rattle.blocks.specs.Check.{checkFrom, checkBytes}
 use Rattle.blocks.specs.Heard.{Moment, final, hearAll, along, entriesOf}
 use Rattle.blocks.specs.Come.{sends, closed, blockBits, Act, Tick, Write, lineOf}
 

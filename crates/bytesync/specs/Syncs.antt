@@ -1,5 +1,5 @@
--- 02, P3: what sending and receiving of the two byte-synchronous modes share: the sync characters, the
--- check's polynomial and where its register starts. Assumes nothing.
+-- 02, P3: what sending and receiving of the two byte-synchronous modes share: the sync characters and
+-- the check's polynomial. Assumes nothing.
 use mathlib.Core.Bool.{Bool, true, false}
 use Prim.Native.Nat.{ℕ, _+_, _*_}
 use Rattle.common.specs.Choice.{if_then_else_}
@@ -20,7 +20,3 @@ crc16 = 0x8005
 
 abbrev pub polynomialOf : Bool → ℕ
 polynomialOf d2 = if d2 then crc16 else sdlc
-
--- "preset to zeros here"
-abbrev pub zeros : ℕ
-zeros = 0

@@ -79,8 +79,6 @@ pub struct Matched {
 
 // x^16+x^15+x^2+1.
 pub const CRC16: u16 = 0x8005;
-// A preset check.
-pub const ZEROS: u16 = 0;
 
 // The polynomial that WR5 D2 chooses.
 pub fn polynomial_of(d2: bool) -> u16

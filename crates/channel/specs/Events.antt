@@ -3,6 +3,7 @@ use mathlib.Core.Bool.{Bool, true, false, not, _&&_, _||_}
 use Prim.Native.Nat.{ℕ}
 use lib.Dec.{eqb}
 use Rattle.common.specs.Choice.{if_then_else_}
+use Rattle.common.specs.declared.Refusal.the-variants as refusal
 use Rattle.line.specs.Bits.{oneIf}
 use Rattle.queue.specs.declared.Queue.{Queue}
 use Rattle.queue.specs.Queue.{pushed, taken, oldest, waits, special}
@@ -13,10 +14,8 @@ use Rattle.receiver.specs.Receiver.{hear}
 use Rattle.settings.specs.declared.Lines.{Lines}
 use Rattle.interrupts.specs.declared.Sources.{Sources}
 use Rattle.channel.specs.declared.Channel.{Channel}
-use Rattle.channel.specs.declared.Answer.the-variants.{Gave}
+use Rattle.channel.specs.declared.Answer.the-variants.{Gave, Refused}
 use Rattle.channel.specs.declared.Answered.{Answered}
-use Rattle.channel.specs.declared.Taken.the-variants.{Byte, Nothing}
-use Rattle.channel.specs.declared.DataRead.{DataRead}
 use Rattle.settings.specs.Settings.{externalOn, transmitOn, receiveMode, sendingOf, receivingOf}
 use Rattle.channel.specs.Channel.{withSender, withReceiver, withQueue, withLines, withArmed, withTransmit, answered, settled}
 
@@ -24,12 +23,13 @@ use Rattle.channel.specs.Channel.{withSender, withReceiver, withQueue, w
 abbrev pub dataWritten : Channel → ℕ → Channel
 dataWritten c v = withTransmit (withSender c (written (c .sender) v)) false
 
--- 01, Receiving: "A data read takes the oldest and disarms the first-character interrupt; with none waiting it .. changes nothing"
-unfoldable pub dataRead : Channel → DataRead
+-- 01, Receiving: "A data read takes the oldest and disarms the first-character interrupt". 02, P5: "10, data
+-- read with nothing waiting"
+unfoldable pub dataRead : Channel → Answered
 dataRead c =
     if waits (c .queue)
-    then record { taken = Byte (oldest (c .queue) .byte); channel = withArmed (withQueue c (taken (c .queue))) false }
-    else record { taken = Nothing; channel = c }
+    then answered (Gave (oldest (c .queue) .byte)) (withArmed (withQueue c (taken (c .queue))) false)
+    else answered (Refused refusal.NoCharacter) c
 
 -- a transmit tick "gives one line bit". 01, Interrupts: "Transmit: set by a load while WR1 D1 is set"
 abbrev pub afterTick : Channel → Ticked → Channel

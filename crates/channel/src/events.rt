@@ -2,8 +2,7 @@
 use crate::Answer;
 use crate::Answered;
 use crate::Channel;
-use crate::DataRead;
-use crate::Taken;
+use common::Refusal;
 use interrupts::Sources;
 use queue::Queue;
 use receiver::Heard;
@@ -26,21 +25,21 @@ impl Channel {
         self
     }
 
-    // A data read.
-    pub fn data_read(mut self) -> DataRead
+    // A data read: refused where nothing waits.
+    pub fn data_read(mut self) -> Answered
         ensures { λ r. ⌜ r ≡ dataRead self ⌝ }
     {
         if self.queue.waits() {
             let e = self.queue.oldest();
             self.queue = self.queue.take();
             self.armed = false;
-            return DataRead {
-                taken: Taken::Byte(e.byte),
+            return Answered {
+                answer: Answer::Gave(e.byte),
                 channel: self,
             };
         }
-        DataRead {
-            taken: Taken::Nothing,
+        Answered {
+            answer: Answer::Refused(Refusal::NoCharacter),
             channel: self,
         }
     }

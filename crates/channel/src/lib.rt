@@ -52,17 +52,6 @@ pub struct Answered {
     pub channel: Channel,
 }
 
-// What a data read takes.
-pub enum Taken {
-    Byte(u8),
-    Nothing,
-}
-
-pub struct DataRead {
-    pub taken: Taken,
-    pub channel: Channel,
-}
-
 impl Answer {
     // The paper's number of the refusal, 0 for none.
     pub fn number(self) -> u8
@@ -123,6 +112,7 @@ impl Channel {
                 wr5: 0,
                 wr6: 0,
                 wr7: 0,
+                chosen: false,
             },
             sender: Sender::reset(),
             receiver: Receiver::reset(),

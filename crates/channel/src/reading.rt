@@ -2,6 +2,8 @@
 use crate::Answer;
 use crate::Answered;
 use crate::Channel;
+use bytesync::wrong;
+use common::in_blocks;
 use common::placed;
 ghost use mathlib.Core.Path.{_≡_};
 ghost use Rattle.channel.specs.Control.{rr0, rr1Now, readRegister, controlRead};
@@ -27,8 +29,11 @@ impl Channel {
     pub fn rr1(self) -> u8
         ensures { λ r. ⌜ r ≡ rr1Now self ⌝ }
     {
-        self.queue
-            .rr1(self.sender.all_sent(self.registers.sending(self.lines)))
+        let sent = self.sender.all_sent(self.registers.sending(self.lines));
+        if in_blocks(self.registers.mode()) {
+            return self.queue.rr1_told(sent, wrong(self.receiver.check));
+        }
+        self.queue.rr1(sent)
     }
 
     // The register that the pointer names; pending and vector are the chip's to say.

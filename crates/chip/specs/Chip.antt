@@ -1,5 +1,5 @@
 -- 01, Events: the calls of the chip, each with its refusals. "The lowest number wins for a chip
--- call (1, 2, 3)." Assumes nothing.
+-- call (1, 2, 3)"; 02, P5: 10 "after 1". Assumes nothing.
 use mathlib.Core.Bool.{Bool, true, false, _&&_, _||_}
 use Prim.Native.Nat.{ℕ}
 use lib.Dec.{eqb, leb}
@@ -13,8 +13,6 @@ use Rattle.channel.specs.declared.Side.the-variants.{A, B}
 use Rattle.channel.specs.declared.Answer.{Answer}
 use Rattle.channel.specs.declared.Answer.the-variants.{Done, Gave, Refused}
 use Rattle.channel.specs.declared.Answered.{Answered}
-use Rattle.channel.specs.declared.Taken.{Taken}
-use Rattle.channel.specs.declared.Taken.the-variants.{Byte, Nothing}
 use Rattle.channel.specs.declared.Channel.{Channel}
 use Rattle.channel.specs.Channel.{answered, resetWith}
 use Rattle.channel.specs.Control.{controlWritten, controlRead}
@@ -85,16 +83,9 @@ dataWriteIn c v = answered Done (dataWritten c v)
 unfoldable pub dataWriteCall : Chip → ℕ → ℕ → Outcome
 dataWriteCall c ch v = inChannel c ch (λ x. dataWriteIn x v)
 
--- 01, Receiving: "with none waiting it gives 0"
-abbrev pub takenValue : Taken → ℕ
-takenValue (Byte v) = v
-takenValue Nothing = 0
-
-abbrev pub dataReadIn : Channel → Answered
-dataReadIn c = answered (Gave (takenValue (dataRead c .taken))) (dataRead c .channel)
-
+-- 02, P5: a data read says "nothing waits" apart from a byte 0
 unfoldable pub dataReadCall : Chip → ℕ → Outcome
-dataReadCall c ch = inChannel c ch dataReadIn
+dataReadCall c ch = inChannel c ch dataRead
 
 -- Ticks and lines
 

@@ -4,13 +4,13 @@
 use mathlib.Core.Path.{_≡_}
 use mathlib.Core.Bool.{false}
 use Prim.Native.Nat.{ℕ}
+use Rattle.channel.specs.declared.Answer.{Answer}
 use Rattle.channel.specs.declared.Channel.{Channel}
 use Rattle.channel.specs.Answer.{answerValue}
 use Rattle.channel.specs.Channel.{withService}
 use Rattle.channel.specs.Control.{rr0, rr1Now}
 use Rattle.channel.specs.Events.{dataRead, transmitTick}
 use Rattle.chip.specs.declared.Chip.{Chip}
-use Rattle.chip.specs.Chip.{takenValue}
 use Rattle.chip.specs.Event.{Event, ControlWrite, ControlRead, DataWrite, DataRead}
 use Rattle.chip.specs.Event.{Transmit, Receive, SetLines}
 
@@ -28,9 +28,9 @@ pub data On (ch : ℕ) : Event → Type 0 where
 abbrev pub nextBit : Channel → ℕ
 nextBit c = answerValue (transmitTick c .answer)
 
--- "data": what the next data read gives
-abbrev pub nextByte : Channel → ℕ
-nextByte c = takenValue (dataRead c .taken)
+-- "data": what the next data read answers, a byte or that nothing waits
+abbrev pub nextRead : Channel → Answer
+nextRead c = dataRead c .answer
 
 -- "RR0 but D1": D1, which is the chip's, set aside
 abbrev pub rr0ButD1 : Channel → ℕ
@@ -39,7 +39,7 @@ rr0ButD1 c = rr0 c false
 -- "line, data, RR1 or RR0 but D1"
 abbrev pub Same : Channel → Channel → Type 0
 Same is was =
-    (nextBit is ≡ nextBit was) × (nextByte is ≡ nextByte was)
+    (nextBit is ≡ nextBit was) × (nextRead is ≡ nextRead was)
     × (rr1Now is ≡ rr1Now was) × (rr0ButD1 is ≡ rr0ButD1 was)
 
 abbrev pub SameChip : Chip → Chip → Type 0

@@ -1,9 +1,10 @@
--- 01, Events: the table of refusals, rows 1 to 4, and the rows that each event knows. Assumes nothing.
+-- 01, Events: the table of refusals, rows 1 to 4, 02's row 10, and the rows that each event knows. Assumes nothing.
 use mathlib.Core.Bool.{Bool, not, _&&_, _||_}
 use mathlib.Core.List.{List, [], _∷_}
 use Prim.Native.Nat.{ℕ}
 use lib.Dec.{eqb, leb}
 use Rattle.common.specs.Choice.{if_then_else_}
+use Rattle.queue.specs.Queue.{waits}
 use Rattle.interrupts.specs.Interrupts.{mayTake}
 use Rattle.settings.specs.Settings.{notBuilt}
 use Rattle.chip.specs.declared.Chip.{Chip}
@@ -39,13 +40,20 @@ settingNotBuilt c ch v = (3, eqb (pointerOf c ch) 4 && notBuilt v)
 abbrev pub nothingAbove : Chip → Row
 nothingAbove c = (4, not (mayTake (pendingOf c) (serviceOf c)))
 
+-- 10 (02, P5): "data read with nothing waiting"
+abbrev pub waitsIn : Chip → ℕ → Bool
+waitsIn c ch = if eqb ch 0 then waits (c .a .queue) else waits (c .b .queue)
+
+abbrev pub noneWaits : Chip → ℕ → Row
+noneWaits c ch = (10, not (waitsIn c ch))
+
 -- "The lowest number wins": the rows that an event knows, the lowest first
 abbrev pub rowsOf : Chip → Event → List Row
 rowsOf c HardReset = []
 rowsOf c (ControlWrite ch v) = channelAbove ch ∷ settingNotBuilt c ch v ∷ []
 rowsOf c (ControlRead ch) = channelAbove ch ∷ []
 rowsOf c (DataWrite ch v) = channelAbove ch ∷ []
-rowsOf c (DataRead ch) = channelAbove ch ∷ []
+rowsOf c (DataRead ch) = channelAbove ch ∷ noneWaits c ch ∷ []
 rowsOf c (Transmit ch) = channelAbove ch ∷ []
 rowsOf c (Receive ch bit) = channelAbove ch ∷ bitAbove bit ∷ []
 rowsOf c (SetLines ch dcd cts) = channelAbove ch ∷ linesAbove dcd cts ∷ []

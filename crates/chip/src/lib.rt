@@ -1,11 +1,10 @@
-// The chip: two channels, their interrupts, and the calls of document 01 with refusals 1 to 4. Any value of a chip is accepted. Assumes nothing.
+// The chip: two channels, their interrupts, and the calls of document 01 with refusals 1 to 4 and 10. Any value of a chip is accepted. Assumes nothing.
 mod sources;
 
 use channel::Answer;
 use channel::Answered;
 use channel::Channel;
 use channel::Side;
-use channel::Taken;
 use common::Refusal;
 use settings::Lines;
 use settings::command_in;
@@ -16,7 +15,7 @@ ghost use Rattle.channel.specs.Channel.{answered};
 ghost use Rattle.channel.specs.Events.{transmitTick};
 ghost use Rattle.chip.specs.Interrupts.{inService};
 ghost use Rattle.chip.specs.Chip.{refused, inA, inB, hardReset, serviceBy, controlWrite, controlReadCall, dataWriteIn, dataWriteCall};
-ghost use Rattle.chip.specs.Chip.{takenValue, dataReadIn, dataReadCall, transmitCall, receiveIn, receiveCall, linesIn, linesCall};
+ghost use Rattle.chip.specs.Chip.{dataReadCall, transmitCall, receiveIn, receiveCall, linesIn, linesCall};
 
 pub struct Chip {
     pub a: Channel,
@@ -33,16 +32,6 @@ pub struct Outcome {
 pub struct Acknowledged {
     pub acked: Acked,
     pub chip: Chip,
-}
-
-// The byte that a data read gives: 0 where nothing waits.
-fn taken_value(t: Taken) -> u8
-    ensures { λ r. ⌜ r ≡ takenValue t ⌝ }
-{
-    match t {
-        Taken::Byte(v) => v,
-        Taken::Nothing => 0,
-    }
 }
 
 // A channel's event that gives no value, as a call answers it.
@@ -62,19 +51,6 @@ fn data_write_in(c: Channel, v: u8) -> Answered
     Answered {
         answer: Answer::Done,
         channel: c.data_write(v),
-    }
-}
-
-fn data_read_in(c: Channel) -> Answered
-    ensures { λ r. ⌜ r ≡ dataReadIn c ⌝ }
-{
-    let r = c.data_read();
-    let t = r.taken;
-    let x = r.channel;
-    let v = taken_value(t);
-    Answered {
-        answer: Answer::Gave(v),
-        channel: x,
     }
 }
 
@@ -197,10 +173,10 @@ impl Chip {
         ensures { λ r. ⌜ r ≡ dataReadCall self ch ⌝ }
     {
         if ch == 0 {
-            return self.in_a(data_read_in(self.a));
+            return self.in_a(self.a.data_read());
         }
         if ch == 1 {
-            return self.in_b(data_read_in(self.b));
+            return self.in_b(self.b.data_read());
         }
         self.refused(Refusal::Channel)
     }

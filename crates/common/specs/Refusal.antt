@@ -1,7 +1,7 @@
--- 01, Events: the number that the paper gives each refusal. Assumes nothing.
+-- 01, Events, and 02: the number that the paper gives each refusal. Assumes nothing.
 use Prim.Native.Nat.{ℕ}
 use Rattle.common.specs.declared.Refusal.{Refusal}
-use Rattle.common.specs.declared.Refusal.the-variants.{Channel, Level, Setting, NothingWaits, NoList, NoteLength, CutList, NoRoom, LongList}
+use Rattle.common.specs.declared.Refusal.the-variants.{Channel, Level, Setting, NothingWaits, NoList, NoteLength, CutList, NoRoom, LongList, NoCharacter}
 
 abbrev pub numberOf : Refusal → ℕ
 numberOf Channel = 1
@@ -13,3 +13,4 @@ numberOf NoteLength = 6
 numberOf CutList = 7
 numberOf NoRoom = 8
 numberOf LongList = 9
+numberOf NoCharacter = 10

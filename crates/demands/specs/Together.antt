@@ -5,7 +5,7 @@ use mathlib.Core.Bool.{false}
 use Prim.Native.Nat.{ℕ, _+_, _-_, _*_}
 use native.Mathlib.Omega.{arith}
 use lib.ListN.{length}
-use Rattle.line.specs.Frame.{zerosOf}
+use Rattle.line.specs.Frame.{zerosOf, withCheck}
 use Rattle.line.specs.Bits.{Below}
 use Rattle.chip.specs.declared.Chip.{Chip}
 use Rattle.chip.specs.Event.{Event}
@@ -14,12 +14,12 @@ use Rattle.stories.specs.Story.{Which}
 use Rattle.stories.specs.Sent.{lineOf, ticks}
 use Rattle.stories.specs.Received.{bitsOf}
 use Rattle.whole.specs.Frames.{ended}
-use Rattle.line.specs.Frame.{withCheck}
-use Rattle.demands.specs.Receiving.Statement.{Listening, Fed, Received}
-use Rattle.demands.specs.Receiving.Statement as receiving
-use Rattle.demands.specs.Receiving.Demand.{demand2}
-use Rattle.demands.specs.Sending.Statement.{Start, InTime}
-use Rattle.demands.specs.Sending.Frame.{demand3}
+use Rattle.receiving.specs.Statement.{Listening, Fed, Received}
+use Rattle.receiving.specs.Demand.{demand2}
+use Rattle.timely.specs.Start.{Start}
+use Rattle.timely.specs.InTime.{InTime}
+use Rattle.sending.specs.Frame.{demand3}
+use Rattle.history.specs.Receiving.Side as receiving
 
 -- the bits that r hears are those that c sends, from the first bit of its opening flag on
 abbrev pub Together : Type 0

@@ -1,1 +1,1 @@
-//! No code to run: specs/ holds the theorems of the three demands, stated over the definitions of the chip.
+//! No code to run: specs/ holds what the three demands say together, of two chips on one line.

@@ -6,11 +6,12 @@ use mathlib.Core.List.{List, [], _∷_, _++_, map}
 use Prim.Native.Nat.{ℕ, _+_, _-_, _*_, _/_, _%_}
 use lib.Dec.{eqb, ltb, leb}
 use Rattle.common.specs.Choice.{if_then_else_}
+use Rattle.common.specs.declared.Refusal.the-variants as refusal
 use Rattle.line.specs.Bits.{odd, oneIf}
 use Rattle.line.specs.Check.{ones, differs}
 use Rattle.entry.specs.declared.Entry.{Entry}
 use Rattle.queue.specs.declared.Queue.{Queue}
-use Rattle.queue.specs.Queue.{queue}
+use Rattle.queue.specs.Queue.{queue, errorReset}
 use Rattle.shared.specs.Shared.{shared, filled, emptied, latched, cleared, checkSet}
 use Rattle.asynchronous.specs.Sending.{noCharacter}
 use Rattle.asynchronous.specs.Hearing.{noAssembly}
@@ -29,7 +30,7 @@ use Rattle.channel.specs.declared.Channel.{Channel}
 use Rattle.status.specs.Status.{status, quietLive}
 use Rattle.channel.specs.Channel.{withRegisters, withSender, withReceiver, withQueue, withStatus}
 use Rattle.channel.specs.Channel.{withLines, withPointer, withArmed, withTransmit, withService, settled}
-use Rattle.channel.specs.Answer.{answerNumber}
+use Rattle.channel.specs.Answer.{answerNumber, answerValue}
 use Rattle.channel.specs.Events.{dataWritten}
 use Rattle.chip.specs.declared.Chip.{Chip}
 use Rattle.chip.specs.declared.Outcome.{Outcome}

@@ -5,3 +5,4 @@ pub mod Received
 pub mod Sending
 pub mod Receiving
 pub mod Calls
+pub mod Clerk

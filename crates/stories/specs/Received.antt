@@ -48,7 +48,7 @@ unfoldable pub bitsOf : Which → List Event → List Bool
 bitsOf w [] = []
 bitsOf w (e ∷ st) = bitIn (role w e) ++ bitsOf w st
 
--- "gives back": what the reads answered while a character waited, and the entries that they took
+-- "gives back": what the reads answered (a refused one gave nothing), and the entries that they took
 
 abbrev pub isRead : Role → Bool
 isRead (Hears b) = false
@@ -66,7 +66,7 @@ valueIf false a = []
 
 unfoldable pub valuesOf : Which → Chip → List Event → List ℕ
 valuesOf w c [] = []
-valuesOf w c (e ∷ st) = valueIf (taking w c (role w e)) (happens c e .answer) ++ valuesOf w (happens c e .chip) st
+valuesOf w c (e ∷ st) = valueIf (isRead (role w e)) (happens c e .answer) ++ valuesOf w (happens c e .chip) st
 
 unfoldable pub tookOf : Which → Chip → List Event → List Entry
 tookOf w c [] = []

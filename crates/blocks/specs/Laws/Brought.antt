@@ -12,7 +12,8 @@ use Rattle.line.specs.Laws.Bits.{lowBits-length}
 use Rattle.bytesync.specs.declared.Syncs.{Syncs}
 use Rattle.bytesync.specs.declared.Matching.{Matching}
 use Rattle.bytesync.specs.Hearing.{searching, expected}
-use Rattle.blocks.specs.Check.{zeros, checkFrom, checkBytes, withCheck}
+use Rattle.shared.specs.Preset.{zeros}
+use Rattle.blocks.specs.Check.{checkFrom, checkBytes, withCheck}
 use Rattle.blocks.specs.Heard.{Moment, moment, hearAll, along, entriesOf}
 use Rattle.blocks.specs.Characters.{Character, char, Brings, nothing, brings, bitsOf, endsOf}
 use Rattle.blocks.specs.Characters.{letsOf, furtherSyncs, each, letIn, firstFree, blockOf}

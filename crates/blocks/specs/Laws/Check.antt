@@ -17,7 +17,8 @@ use Rattle.line.specs.Laws.Bits.{lowBits-fromLow, fromLow-lt, textBits-join}
 use Rattle.line.specs.Laws.Xor.{xor-assoc, xor-low, differs-self, not-differs}
 use Rattle.line.specs.Laws.Check.{check-join, step-xor, check-linear, check-own, step-lt, check-lt}
 use Rattle.line.specs.Laws.Check.{checkBits-length}
-use Rattle.blocks.specs.Check.{zeros, checkFrom, checkBytes, withCheck}
+use Rattle.shared.specs.Preset.{zeros}
+use Rattle.blocks.specs.Check.{checkFrom, checkBytes, withCheck}
 
 topBits-length : (n r : ℕ) → length (topBits n r) ≡ n
 unfolding topBits

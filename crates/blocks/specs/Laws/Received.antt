@@ -20,7 +20,8 @@ use Rattle.bytesync.specs.declared.Matching.{Matching}
 use Rattle.bytesync.specs.declared.Block.{Block}
 use Rattle.bytesync.specs.Hearing.{noBlock, receptionAt, searching, expected, entering, arrived}
 use Rattle.bytesync.specs.Hearing.{assembling, hearBlock}
-use Rattle.blocks.specs.Check.{zeros, checkFrom, checkBytes, withCheck}
+use Rattle.shared.specs.Preset.{zeros}
+use Rattle.blocks.specs.Check.{checkFrom, checkBytes, withCheck}
 use Rattle.blocks.specs.Heard.{Moment, heeding, Final, before, handed, hearAll, along}
 use Rattle.blocks.specs.Heard.{entriesOf}
 use Rattle.blocks.specs.Characters.{Character, Brings, nothing, brings, kept, entrants}

@@ -17,7 +17,8 @@ use Rattle.bytesync.specs.declared.Matched.{Matched}
 use Rattle.bytesync.specs.Hearing.{reception, searching, unmatched, shiftIn, lastEight, counted}
 use Rattle.bytesync.specs.Hearing.{syncSeen, hunting, entering, arrived, lastBit, assembling}
 use Rattle.bytesync.specs.Hearing.{hearBlock}
-use Rattle.blocks.specs.Check.{zeros, checkFrom}
+use Rattle.shared.specs.Preset.{zeros}
+use Rattle.blocks.specs.Check.{checkFrom}
 use Rattle.blocks.specs.Register.{Doing, Hears, Searches, State, state, does, after, Tale}
 use Rattle.blocks.specs.Register.{Complete, Hunt, Within, told, tales, Entrant, entrant}
 use Rattle.blocks.specs.Register.{entrantsOf, checkThrough, allOver}

@@ -20,7 +20,8 @@ use Rattle.bytesync.specs.declared.BlockUnit.the-variants.{Mark, Sync, Byte, Ch
 use Rattle.bytesync.specs.declared.Syncing.{Syncing}
 use Rattle.bytesync.specs.Syncs.{pair}
 use Rattle.bytesync.specs.Sending.{syncSent, tickBlock}
-use Rattle.blocks.specs.Check.{zeros, checkFrom}
+use Rattle.shared.specs.Preset.{zeros}
+use Rattle.blocks.specs.Check.{checkFrom}
 use Rattle.blocks.specs.Come.{Good, Sends, sends, ticked, filledWith, syncBits, behind}
 use Rattle.blocks.specs.Come.{closed, toCome, Stage, atMark, opening, inByte, inCheck, inTail}
 use Rattle.blocks.specs.Come.{closing, Act, Tick, Write, lineOf, ticks, lastOf, InTime, over}

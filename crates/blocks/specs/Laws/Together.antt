@@ -15,7 +15,8 @@ use Rattle.line.specs.Laws.Bits.{textBits-join}
 use Rattle.bytesync.specs.declared.Syncing.{Syncing}
 use Rattle.bytesync.specs.declared.Matching.{Matching}
 use Rattle.bytesync.specs.Hearing.{expected, searching}
-use Rattle.blocks.specs.Check.{zeros, checkFrom, withCheck}
+use Rattle.shared.specs.Preset.{zeros}
+use Rattle.blocks.specs.Check.{checkFrom, withCheck}
 use Rattle.blocks.specs.Heard.{Moment, hearAll, entriesOf}
 use Rattle.blocks.specs.Characters.{bitsOf, endsOf, patternBits, patternLength, furtherSyncs}
 use Rattle.blocks.specs.Characters.{turnAfter, letting, Feeds}

@@ -19,14 +19,14 @@ use Rattle.chip.specs.Chip.{inA, inB, controlWriteA, controlWrite, contr
 use Rattle.chip.specs.Chip.{dataWriteCall, dataReadCall, transmitCall, receiveCall, linesCall}
 use Rattle.chip.specs.Event.{Event, Acknowledge, Reti, step}
 use Rattle.chip.specs.Isolation.{On, control-write, control-read, data-write, data-read}
-use Rattle.chip.specs.Isolation.{transmit, receive, set-lines, nextByte, Same, SameChip}
+use Rattle.chip.specs.Isolation.{transmit, receive, set-lines, nextRead, Same, SameChip}
 use Rattle.chip.specs.Isolation.{ButService, ServiceAlone}
 
 -- The sources in service show in none of the four
 
-data-service : (c : Channel) (s : Sources) → nextByte (withService c s) ≡ nextByte c
+data-service : (c : Channel) (s : Sources) → nextRead (withService c s) ≡ nextRead c
 unfolding dataRead
-data-service c s = bool-or (waits (c .queue)) (λ e. rw e) (λ e. rw e)
+data-service c s = bool-or (waits (c .queue)) (λ e. rw (nextRead, e)) (λ e. rw (nextRead, e))
 
 service-same : (c : Channel) (s : Sources) → Same (withService c s) c
 unfolding transmitTick rr1Now rr0 liveOf

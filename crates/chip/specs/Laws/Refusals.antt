@@ -11,6 +11,7 @@ use borrow.Author.Tests.{eqb-true, le-leb, ne-eqb}
 use Rattle.common.specs.Choice.{if_then_else_}
 use Rattle.common.specs.Tools.{if-elim, by-test, bool-or, both-left}
 use Rattle.common.specs.declared.Refusal.the-variants as refusal
+use Rattle.queue.specs.Queue.{waits}
 use Rattle.interrupts.specs.Interrupts.{mayTake, acknowledged}
 use Rattle.vector.specs.Vector.{ackedBy}
 use Rattle.settings.specs.Settings.{commandIn, notBuilt}
@@ -22,18 +23,18 @@ use Rattle.channel.specs.declared.Answered.{Answered}
 use Rattle.channel.specs.Answer.{answerNumber}
 use Rattle.channel.specs.Channel.{answered}
 use Rattle.channel.specs.Control.{controlWritten}
-use Rattle.channel.specs.Events.{transmitTick}
+use Rattle.channel.specs.Events.{dataRead, transmitTick}
 use Rattle.chip.specs.declared.Chip.{Chip}
 use Rattle.chip.specs.declared.Outcome.{Outcome}
 use Rattle.chip.specs.Interrupts.{chip, pendingOf, serviceOf, inService, rr2, acknowledge}
 use Rattle.chip.specs.Chip.{inA, inB, byChannel, inChannel, endsService, serviceBy}
 use Rattle.chip.specs.Chip.{controlWriteA, controlWrite, controlReadCall, dataWriteIn}
-use Rattle.chip.specs.Chip.{dataWriteCall, dataReadIn, dataReadCall, transmitCall}
+use Rattle.chip.specs.Chip.{dataWriteCall, dataReadCall, transmitCall}
 use Rattle.chip.specs.Chip.{receiveIn, receiveCall, linesIn, linesCall}
 use Rattle.chip.specs.Event.{Event, HardReset, ControlWrite, ControlRead, DataWrite, DataRead}
 use Rattle.chip.specs.Event.{Transmit, Receive, SetLines, Acknowledge, Reti}
 use Rattle.chip.specs.Event.{ackedAnswer, step}
-use Rattle.chip.specs.Refusals.{Row, channelAbove, bitAbove, linesAbove, settingNotBuilt}
+use Rattle.chip.specs.Refusals.{Row, channelAbove, bitAbove, linesAbove, settingNotBuilt, noneWaits}
 use Rattle.chip.specs.Refusals.{rowsOf, firstRow}
 
 abbrev numberIn : Outcome → ℕ
@@ -78,6 +79,11 @@ tick-number : (x : Channel) → answerNumber (transmitTick x .answer) ≡ 0
 unfolding transmitTick
 tick-number x = refl
 
+read-number : (x : Channel)
+    → answerNumber (dataRead x .answer) ≡ (if not (waits (x .queue)) then 10 else 0)
+unfolding dataRead
+read-number x = bool-or (waits (x .queue)) (λ e. rw e) (λ e. rw e)
+
 acked-number : (taken : Bool) (v : ℕ)
     → answerNumber (ackedAnswer (ackedBy taken v)) ≡ (if not taken then 4 else 0)
 acked-number true v = refl
@@ -95,7 +101,8 @@ refused-by-the-table c (ControlWrite ch v) =
 refused-by-the-table c (ControlRead ch) = by-channel-number c ch _ _ (λ n. []) refl refl
 refused-by-the-table c (DataWrite ch v) =
     alike-number c ch (λ x. dataWriteIn x v) [] (λ x. refl)
-refused-by-the-table c (DataRead ch) = alike-number c ch dataReadIn [] (λ x. refl)
+refused-by-the-table c (DataRead ch) =
+    by-channel-number c ch _ _ (λ n. noneWaits c n ∷ []) (read-number (c .a)) (read-number (c .b))
 refused-by-the-table c (Transmit ch) = alike-number c ch transmitTick [] tick-number
 refused-by-the-table c (Receive ch bit) =
     alike-number c ch (λ x. receiveIn x bit) (bitAbove bit ∷ [])
@@ -159,6 +166,10 @@ level-kept : (x : Channel) (above : Bool) (r : Answered) → answerNumber (r .an
 level-kept x true r p = inr refl
 level-kept x false r p = inl p
 
+read-kept : (x : Channel) → KeptChannel x (dataRead x)
+unfolding dataRead
+read-kept x = if-elim (KeptChannel x) (waits (x .queue)) (inl refl) (inr refl)
+
 acknowledge-kept : (c : Chip) → Kept c (step c Acknowledge)
 unfolding acknowledge acknowledged
 acknowledge-kept c =
@@ -172,7 +183,7 @@ kept c (ControlWrite ch v) =
     (in-b-kept c (controlWritten (c .b) B v) (written-kept (c .b) B v))
 kept c (ControlRead ch) = by-channel-kept c ch _ _ (inl refl) (inl refl)
 kept c (DataWrite ch v) = alike-kept c ch (λ x. dataWriteIn x v) (λ x. inl refl)
-kept c (DataRead ch) = alike-kept c ch dataReadIn (λ x. inl refl)
+kept c (DataRead ch) = alike-kept c ch dataRead read-kept
 kept c (Transmit ch) = alike-kept c ch transmitTick (λ x. inl (tick-number x))
 kept c (Receive ch bit) =
     alike-kept c ch (λ x. receiveIn x bit) (λ x. level-kept x (leb 2 bit) _ refl)

@@ -6,7 +6,7 @@ use Rattle.common.specs.Tools.{if-elim}
 use Rattle.channel.specs.declared.Side.the-variants.{A, B}
 use Rattle.channel.specs.declared.Channel.{Channel}
 use Rattle.channel.specs.declared.Answered.{Answered}
-use Rattle.channel.specs.Events.{transmitTick}
+use Rattle.channel.specs.Events.{dataRead, transmitTick}
 use Rattle.channel.specs.Sound.{SoundChannel}
 use Rattle.channel.specs.Laws.Sound.{reset-sound, control-write-sound, control-read-sound}
 use Rattle.channel.specs.Laws.Sound.{data-write-sound, data-read-sound, transmit-sound}
@@ -16,7 +16,7 @@ use Rattle.chip.specs.declared.Outcome.{Outcome}
 use Rattle.chip.specs.Interrupts.{inService, anyPending, rr2, acknowledge, reti}
 use Rattle.chip.specs.Chip.{hardReset, byChannel, inChannel, onLevel, serviceBy}
 use Rattle.chip.specs.Chip.{controlWriteA, controlWrite, controlReadCall, dataWriteIn}
-use Rattle.chip.specs.Chip.{dataWriteCall, dataReadIn, dataReadCall, transmitCall}
+use Rattle.chip.specs.Chip.{dataWriteCall, dataReadCall, transmitCall}
 use Rattle.chip.specs.Chip.{receiveIn, receiveCall, linesIn, linesCall}
 use Rattle.chip.specs.Event.{Event, HardReset, ControlWrite, ControlRead, DataWrite, DataRead}
 use Rattle.chip.specs.Event.{Transmit, Receive, SetLines, Acknowledge, Reti, step}
@@ -72,7 +72,7 @@ step-sound c HardReset h = hard-reset-sound
 step-sound c (ControlWrite ch v) h = control-write c h ch v
 step-sound c (ControlRead ch) h = control-read c h ch
 step-sound c (DataWrite ch v) h = alike c h ch (λ x. dataWriteIn x v) (λ x. data-write-sound x v)
-step-sound c (DataRead ch) h = alike c h ch dataReadIn data-read-sound
+step-sound c (DataRead ch) h = alike c h ch dataRead data-read-sound
 step-sound c (Transmit ch) h = alike c h ch transmitTick transmit-sound
 step-sound c (Receive ch bit) h = alike c h ch (λ x. receiveIn x bit) (λ x. receive-in x bit)
 step-sound c (SetLines ch dcd cts) h =

@@ -4,25 +4,25 @@ use borrow.Author.Needs.{needs}
 use Rattle.chip.proofs.Chip.data_read.Statement.{statement}
 use Rattle.chip.proofs.Chip.data_read.Tie as tie
 
-data-read-in-requires : tie.Need-data-read-in-requires
-data-read-in-requires c κs = search needs
+data-read-requires : tie.Need-data-read-requires
+data-read-requires c κs = search needs
 
 in-a-requires : tie.Need-in-a-requires
 in-a-requires c κs = search needs
 
 returns : tie.Need-returns
 unfolding dataReadCall
-returns c = simp (tests, c .in-a .ensures, c .before .before .if1 .taken, c .before .data-read-in .ensures)
+returns c = simp (tests, c .in-a .ensures, c .before .before .if1 .taken, c .before .data-read .ensures)
 
-data-read-in-requires-2 : tie.Need-data-read-in-requires-2
-data-read-in-requires-2 c κs = search needs
+data-read-requires-2 : tie.Need-data-read-requires-2
+data-read-requires-2 c κs = search needs
 
 in-b-requires : tie.Need-in-b-requires
 in-b-requires c κs = search needs
 
 returns-2 : tie.Need-returns-2
 unfolding dataReadCall
-returns-2 c = simp (tests, c .in-b .ensures, c .before .before .if2 .taken, c .before .before .before .if1 .left, c .before .data-read-in2 .ensures)
+returns-2 c = simp (tests, c .in-b .ensures, c .before .before .if2 .taken, c .before .before .before .if1 .left, c .before .data-read2 .ensures)
 
 refused-requires : tie.Need-refused-requires
 refused-requires c κs = search needs
@@ -35,10 +35,10 @@ pub data-read-spec : {M : Type 1} → statement M
 data-read-spec =
     tie.close
     (tie.spec
-    data-read-in-requires
+    data-read-requires
     in-a-requires
     returns
-    data-read-in-requires-2
+    data-read-requires-2
     in-b-requires
     returns-2
     refused-requires

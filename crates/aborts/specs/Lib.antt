@@ -1,0 +1,4 @@
+pub mod Statement
+pub mod Abort
+pub mod Tests
+pub mod Example

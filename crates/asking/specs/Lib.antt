@@ -1,0 +1,5 @@
+pub mod Happens
+pub mod Pending
+pub mod Serving
+pub mod Vectors
+pub mod Latching

@@ -1,0 +1,1 @@
+//! No code to run: specs/ holds demand 2, receiving: its statement and its proof.

@@ -1,0 +1,8 @@
+pub mod Statement
+pub mod Frame
+pub mod Chain
+pub mod Shown
+pub mod Underrun
+pub mod Unclosed
+pub mod Tests
+pub mod Example

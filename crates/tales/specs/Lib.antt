@@ -1,0 +1,5 @@
+pub mod Tale
+pub mod Words
+pub mod Kind
+pub mod Parts
+pub mod Wrong

@@ -1,0 +1,4 @@
+pub mod Start
+pub mod InTime
+pub mod Free
+pub mod Tests
