@@ -9,6 +9,7 @@ import sys
 
 CHARACTER_WAITS, ANY_PENDING, BUFFER_EMPTY, DCD, HUNT, CTS, UNDERRUN, BREAK_ABORT = (1 << d for d in range(8))
 LENGTHS = (5, 7, 6, 8)
+SHAPES = (('1111000', 1), ('111000', 2), ('11000', 3), ('1000', 4))
 GOOD = 0x1D0F
 SDLC, CRC16 = 0x1021, 0x8005
 BLOCKS = 'monosync', 'bisync'
@@ -202,9 +203,19 @@ class Channel:
             self.choose_in_block()
         return self.bits.pop(0)
 
+    def count_sent(self, value):
+        """How many low bits of a byte go out; with length 00 its shape says it."""
+        if self.wr[5] & 0x60:
+            return LENGTHS[self.wr[5] >> 5 & 3]
+        for above, count in SHAPES:
+            if f'{value:08b}'.startswith(above):
+                return count
+        return 5
+
     def async_bit(self):
         if not self.bits and self.sender_on() and self.full:
-            data = low_first(self.load(), LENGTHS[self.wr[5] >> 5 & 3])
+            value = self.load()
+            data = low_first(value, self.count_sent(value))
             parity = [(sum(data) + (0 if self.wr[4] & 2 else 1)) % 2] if self.wr[4] & 1 else []
             self.bits = [0] + data + parity + [1] * (2 if self.wr[4] & 0x0C == 0x0C else 1)
         return self.bits.pop(0) if self.bits else 1

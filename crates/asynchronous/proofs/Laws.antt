@@ -1,4 +1,4 @@
--- The definitions as the code meets them: a loop's step and its end, and a character's bits as one number. Assumes nothing.
+-- The definitions as the code meets them: a character's bits as one number. Assumes nothing.
 use Prim.Native.Nat.{ℕ, zero, suc, _+_, _*_, _-_, _/_, _%_, _^_, _<_, _≤_}
 use mathlib.Core.Path.{_≡_, refl, sym, ap, ap₂, _∙_}
 use mathlib.Core.Bool.{Bool, true, false}
@@ -13,26 +13,14 @@ use lib.ListN.{length, length-append}
 use mir.Val.{boolByte}
 use Rattle.common.specs.Tools.{two-cases, if-elim}
 use Rattle.line.specs.Bits.{odd, oneIf, lowBits}
-use Rattle.line.specs.Laws.Bits.{lowBits-length}
+use Rattle.line.specs.Laws.Bits.{lowBits-length, odd-is}
 use Rattle.line.specs.Bits.{fromLow}
 use Rattle.asynchronous.specs.declared.Typing.{Typing}
-use Rattle.asynchronous.specs.Sending.{bitsSent, sentBits, parityBit, stopBits}
+use Rattle.shapes.specs.Sent.{bitsSent, sentBits, parityBit}
+use Rattle.asynchronous.specs.Sending.{stopBits}
 use Rattle.asynchronous.specs.Sending.{character, characterOf}
 
-pub low-step : (n v : ℕ) → 0 < n → lowBits n v ≡ odd v ∷ lowBits (n - 1) (v / 2)
-unfolding lowBits
-low-step zero v h = absurd (omega arith)
-low-step (suc n) v h = rw sub-one
-
-pub low-none : (n v : ℕ) → n ≤ 0 → lowBits n v ≡ []
-unfolding lowBits
-low-none zero v h = refl
-low-none (suc n) v h = absurd (omega arith)
-
 -- what stands above the low n bits of v
-odd-is : (v : ℕ) → oneIf (odd v) ≡ v % 2
-odd-is v = two-cases (λ x. oneIf (eqb x 1) ≡ x) refl refl (v % 2) (omega arith)
-
 pub fromLow-above : (n v : ℕ) (xs : List Bool) → fromLow (lowBits n v ++ xs) ≡ fromLow xs * 2 ^ n + v % 2 ^ n
 unfolding fromLow lowBits
 fromLow-above zero v xs = omega arith
@@ -58,12 +46,12 @@ bit-is false = refl
 
 -- a character, with and without parity, as the code puts it together
 pub with-parity : (g : Typing) (v : ℕ) → g .format .parity ≡ true
-    → let n = bitsSent (g .format .length) in
+    → let n = bitsSent (g .format .length) v in
     let p = parityBit (g .format .even) (sentBits (g .format .length) v) in
     let s = stopBits (g .stops) in
     character (n + 1 + length s) ((fromLow s * 2 + boolByte p) * 2 ^ n + v % 2 ^ n) ≡ characterOf g v
 with-parity g v e =
-    let n = bitsSent (g .format .length) in
+    let n = bitsSent (g .format .length) v in
     let p = parityBit (g .format .even) (lowBits n v) in
     let s = stopBits (g .stops) in
     let count : n + 1 + length s ≡ length (lowBits n v ++ (p ∷ s)) =
@@ -73,11 +61,11 @@ with-parity g v e =
     rw e (ap₂ character count number)
 
 pub without-parity : (g : Typing) (v : ℕ) → g .format .parity ≡ false
-    → let n = bitsSent (g .format .length) in
+    → let n = bitsSent (g .format .length) v in
     let s = stopBits (g .stops) in
     character (n + length s) (fromLow s * 2 ^ n + v % 2 ^ n) ≡ characterOf g v
 without-parity g v e =
-    let n = bitsSent (g .format .length) in
+    let n = bitsSent (g .format .length) v in
     let s = stopBits (g .stops) in
     let count : n + length s ≡ length (lowBits n v ++ s) =
     omega (arith, length-append (lowBits n v) s, lowBits-length n v) in

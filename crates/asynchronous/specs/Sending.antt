@@ -1,15 +1,15 @@
 -- 01, Sending: "Asynchronous: start 0, the low bits, parity, stop ones." What goes out of one byte
--- behind its start bit, and a transmit tick. A length that is none of five, six and seven counts as
--- eight, a number of stop bits other than two as one. Assumes nothing.
+-- behind its start bit, and a transmit tick. A number of stop bits other than two counts as one.
+-- Assumes nothing.
 use mathlib.Core.Bool.{Bool, true, false, not, _&&_}
 use mathlib.Core.List.{List, [], _∷_, _++_}
 use Prim.Native.Nat.{ℕ, _-_, _/_}
 use lib.Dec.{eqb}
 use lib.ListN.{length}
 use Rattle.common.specs.Choice.{if_then_else_}
-use Rattle.line.specs.Bits.{odd, lowBits}
-use Rattle.line.specs.Check.{differs}
+use Rattle.line.specs.Bits.{odd}
 use Rattle.line.specs.Bits.{fromLow}
+use Rattle.shapes.specs.Sent.{sentBits, parityBit}
 use Rattle.shared.specs.declared.Shared.{Shared}
 use Rattle.shared.specs.Shared.{emptied}
 use Rattle.asynchronous.specs.declared.Format.{Format}
@@ -18,23 +18,6 @@ use Rattle.asynchronous.specs.declared.Character.{Character}
 use Rattle.asynchronous.specs.declared.Typed.{Typed}
 
 -- The bits of a character
-
--- 01, Registers: "Lengths: 00 five, 01 seven, 10 six, 11 eight."
-unfoldable pub bitsSent : ℕ → ℕ
-bitsSent n = if eqb n 5 then 5 else (if eqb n 6 then 6 else (if eqb n 7 then 7 else 8))
-
--- "the low bits": what a character of this length sends of a byte
-abbrev pub sentBits : ℕ → ℕ → List Bool
-sentBits n v = lowBits (bitsSent n) v
-
--- whether the ones are odd in number, counted on from what stood before
-unfoldable pub oddOver : Bool → List Bool → Bool
-oddOver p [] = p
-oddOver p (b ∷ bs) = oddOver (differs p b) bs
-
--- 01, Registers: "WR4: D0 parity, D1 even". The bit with which the ones are even, or odd, in number
-abbrev pub parityBit : Bool → List Bool → Bool
-parityBit even bs = oddOver (not even) bs
 
 abbrev pub parityBits : Format → List Bool → List Bool
 parityBits f bs = if f .parity then parityBit (f .even) bs ∷ [] else []

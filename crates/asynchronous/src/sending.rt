@@ -2,44 +2,14 @@
 use crate::Character;
 use crate::Typed;
 use crate::Typing;
+use shapes::bits_sent;
+use shapes::parity_bit;
 use shared::Shared;
 ghost use mathlib.Core.Path.{_≡_};
 ghost use Prim.Native.Nat.{_+_, _*_, _%_, _^_, _≤_};
 ghost use lib.ListN.{length};
-ghost use Rattle.line.specs.Bits.{lowBits};
 ghost use Rattle.line.specs.Bits.{fromLow};
-ghost use Rattle.asynchronous.specs.Sending.{bitsSent, parityBit, stopBits, characterOf, startCharacter, idling, tickCharacter};
-
-// How many bits a character of this length sends.
-fn bits_sent(length: u8) -> u8
-    ensures { λ r. ⌜ r ≡ bitsSent length ⌝ }
-{
-    if length == 5 {
-        return 5;
-    }
-    if length == 6 {
-        return 6;
-    }
-    if length == 7 {
-        return 7;
-    }
-    8
-}
-
-// The parity bit of the low n bits of v.
-fn parity_bit(even: bool, n: u8, v: u8) -> bool
-    ensures { λ r. ⌜ r ≡ parityBit even (lowBits n v) ⌝ }
-{
-    let mut odd = !even;
-    let mut rest = v;
-    let mut left = n;
-    while 0 < left {
-        odd = odd != (rest % 2 == 1);
-        rest = rest / 2;
-        left = left - 1;
-    }
-    odd
-}
+ghost use Rattle.asynchronous.specs.Sending.{stopBits, characterOf, startCharacter, idling, tickCharacter};
 
 // The number of stop bits.
 fn stop_count(stops: u8) -> u8
@@ -57,12 +27,24 @@ fn stop_ones(stops: u8) -> u8
 
 // The bits of t above the low n bits of v.
 fn above(n: u8, v: u8, t: u8) -> u16
-    requires { ⌜ 5 ≤ n ⌝ }
+    requires { ⌜ 1 ≤ n ⌝ }
     requires { ⌜ n ≤ 8 ⌝ }
     ensures { λ r. ⌜ r ≡ t * 2 ^ n + v % 2 ^ n ⌝ }
 {
     let low = v as u16;
     let high = t as u16;
+    if n == 1 {
+        return high * 2 + low % 2;
+    }
+    if n == 2 {
+        return high * 4 + low % 4;
+    }
+    if n == 3 {
+        return high * 8 + low % 8;
+    }
+    if n == 4 {
+        return high * 16 + low % 16;
+    }
     if n == 5 {
         return high * 32 + low % 32;
     }
@@ -80,11 +62,11 @@ impl Typing {
     fn character(self, v: u8) -> Character
         ensures { λ r. ⌜ r ≡ characterOf self v ⌝ }
     {
-        let n = bits_sent(self.format.length);
+        let n = bits_sent(self.format.length, v);
         let count = stop_count(self.stops);
         let ones = stop_ones(self.stops);
         if self.format.parity {
-            let p = parity_bit(self.format.even, n, v) as u8;
+            let p = parity_bit(self.format.even, self.format.length, v) as u8;
             return Character {
                 left: n + 1 + count,
                 bits: above(n, v, ones * 2 + p),

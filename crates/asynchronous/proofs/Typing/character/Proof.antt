@@ -1,6 +1,7 @@
 -- `asynchronous::Typing::character` meets its contract: parts of at most eight, one and two bits fit, and they lie as the definition's bits do. Assumes nothing.
 use native.Mathlib.Omega.{arith}
-use Rattle.asynchronous.specs.Laws.Character.{bits-least, bits-most, stops-most}
+use Rattle.shapes.specs.Laws.Sent.{bits-least, bits-most}
+use Rattle.asynchronous.specs.Laws.Character.{stops-most}
 use Rattle.asynchronous.proofs.Laws.{ones-most, bit-most, with-parity, without-parity}
 use borrow.Author.Needs.{needs}
 use Rattle.asynchronous.proofs.Typing.character.Statement.{statement}
@@ -22,10 +23,10 @@ cast-p : tie.Need-cast-p
 cast-p c = search needs
 
 add-t9 : tie.Need-add-t9
-add-t9 c = omega (arith, c .before .before .before .before .bits-sent .ensures, bits-most (c .before .before .before .before .before .args .self .format .length))
+add-t9 c = omega (arith, c .before .before .before .before .bits-sent .ensures, bits-most (c .before .before .before .before .before .args .self .format .length) (c .before .before .before .before .before .args .v))
 
 add-t10 : tie.Need-add-t10
-add-t10 c = omega (arith, c .before .before .before .before .bits-sent .ensures, bits-most (c .before .before .before .before .before .args .self .format .length), c .before .before .before .stop-count .ensures, stops-most (c .before .before .before .before .before .args .self .stops))
+add-t10 c = omega (arith, c .before .before .before .before .bits-sent .ensures, bits-most (c .before .before .before .before .before .args .self .format .length) (c .before .before .before .before .before .args .v), c .before .before .before .stop-count .ensures, stops-most (c .before .before .before .before .before .args .self .stops))
 
 mul-above : tie.Need-mul-above
 mul-above c = omega (arith, c .before .before .stop-ones .ensures, ones-most (c .before .before .before .before .before .args .self .stops))
@@ -34,7 +35,7 @@ add-above : tie.Need-add-above
 add-above c = omega (arith, c .before .before .stop-ones .ensures, ones-most (c .before .before .before .before .before .args .self .stops), bit-most (c .parity-bit .result))
 
 above-requires : tie.Need-above-requires
-above-requires c κs = (omega (arith, c .before .before .before .before .bits-sent .ensures, bits-least (c .before .before .before .before .before .args .self .format .length)), omega (arith, c .before .before .before .before .bits-sent .ensures, bits-most (c .before .before .before .before .before .args .self .format .length)))
+above-requires c κs = (omega (arith, c .before .before .before .before .bits-sent .ensures, bits-least (c .before .before .before .before .before .args .self .format .length) (c .before .before .before .before .before .args .v)), omega (arith, c .before .before .before .before .bits-sent .ensures, bits-most (c .before .before .before .before .before .args .self .format .length) (c .before .before .before .before .before .args .v)))
 
 returns : tie.Need-returns
 returns c =
@@ -43,10 +44,10 @@ returns c =
     (with-parity (s .args .self) (s .args .v) (c .before .before .if1 .taken))
 
 add-t14 : tie.Need-add-t14
-add-t14 c = omega (arith, c .before .before .before .bits-sent .ensures, bits-most (c .before .before .before .before .args .self .format .length), c .before .before .stop-count .ensures, stops-most (c .before .before .before .before .args .self .stops))
+add-t14 c = omega (arith, c .before .before .before .bits-sent .ensures, bits-most (c .before .before .before .before .args .self .format .length) (c .before .before .before .before .args .v), c .before .before .stop-count .ensures, stops-most (c .before .before .before .before .args .self .stops))
 
 above-requires-2 : tie.Need-above-requires-2
-above-requires-2 c κs = (omega (arith, c .before .before .before .bits-sent .ensures, bits-least (c .before .before .before .before .args .self .format .length)), omega (arith, c .before .before .before .bits-sent .ensures, bits-most (c .before .before .before .before .args .self .format .length)))
+above-requires-2 c κs = (omega (arith, c .before .before .before .bits-sent .ensures, bits-least (c .before .before .before .before .args .self .format .length) (c .before .before .before .before .args .v)), omega (arith, c .before .before .before .bits-sent .ensures, bits-most (c .before .before .before .before .args .self .format .length) (c .before .before .before .before .args .v)))
 
 returns-2 : tie.Need-returns-2
 returns-2 c =

@@ -1,0 +1,3 @@
+pub mod Shapes
+pub mod Sent
+pub mod Laws
