@@ -1,0 +1,7 @@
+-- Receiving.
+pub mod Side
+pub mod Events
+pub mod Conserved
+pub mod Statement
+pub mod Shown
+pub mod Demand
