@@ -5,3 +5,5 @@ pub mod Conserved
 pub mod Statement
 pub mod Shown
 pub mod Demand
+pub mod Register
+pub mod Hunt

@@ -23,19 +23,15 @@ use Rattle.blocks.specs.Register.{Doing, Hears, Searches, State, state, 
 use Rattle.blocks.specs.Register.{Complete, Hunt, Within, told, tales, Entrant, entrant}
 use Rattle.blocks.specs.Register.{entrantsOf, checkThrough, allOver}
 
--- in hunt nothing waits, whatever the receiver holds
-hunt-none : (s : State) (h : Bool) (x : ℕ) (xs : List Doing) → s .reception .hunt ≡ true
-    → entrantsOf h x (tales s xs) ≡ entrantsOf false 0 (tales s xs)
-unfolding tales entrantsOf
-hunt-none s h x [] e = refl
-hunt-none s h x (Hears g b ∷ xs) e = rw e
-hunt-none s h x (Searches ∷ xs) e = refl
+-- in hunt nothing waits, whatever the receiver holds: what follows says so
+abbrev pub Steady : Reception → List Tale → Type 0
+Steady r ts =
+    r .hunt ≡ true → (h : Bool) (x : ℕ) → entrantsOf h x ts ≡ entrantsOf false 0 ts
 
 -- what enters from here on, if anything does, goes into what the tick has left
-abbrev Goes : ℕ → Block → Matched → Tale → Type 0
+abbrev pub Goes : ℕ → Block → Matched → Tale → Type 0
 Goes c d m t =
-    (xs : List Doing) → let ts = tales (state (m .reception) (m .check)) xs in
-    let e = m .reception .block in
+    (ts : List Tale) → Steady (m .reception) ts → let e = m .reception .block in
     checkThrough (m .check) (entrantsOf (e .have) (e .held) ts)
     ≡ checkThrough c (entrantsOf (d .have) (d .held) (t ∷ ts))
 
@@ -64,31 +60,34 @@ module _ (g : Matching) (r : Reception) (c : ℕ) (b : Bool) where
   in-hunt =
       let s = shiftIn b (r .bits) in
       let n = counted (r .count) in
-      if-elim (λ (m : Matched). Goes c d m Hunt) (syncSeen (g .syncs) n s) (λ xs. refl)
-      (λ xs. ap (checkThrough c)
-      (hunt-none (state (reception true s n d) c) (d .have) (d .held) xs refl))
+      if-elim (λ (m : Matched). Goes c d m Hunt) (syncSeen (g .syncs) n s) (λ ts k. refl)
+      (λ ts k. ap (checkThrough c) (k refl (d .have) (d .held)))
 
   within : Goes c d (unmatched (reception false (shiftIn b (r .bits)) (r .count + 1) d) c) Within
   unfolding entrantsOf
-  within = λ xs. refl
+  within = λ ts k. refl
 
   whole : Goes c d (arrived g d c (lastEight (shiftIn b (r .bits))))
       (Complete (lastEight (shiftIn b (r .bits))) (g .checking) (g .polynomial))
   unfolding arrived entering entrantsOf
   whole =
-      λ xs.
-      let v = lastEight (shiftIn b (r .bits)) in
-      let m = arrived g d c v in
+      λ ts k.
       let-in (g .polynomial) c (d .held) (g .checking && d .have)
-      (entrantsOf true v (tales (state (m .reception) (m .check)) xs))
+      (entrantsOf true (lastEight (shiftIn b (r .bits))) ts)
 
-  ticked : Goes c d (hearBlock g r c b) (told r (Hears g b))
+  pub ticked : Goes c d (hearBlock g r c b) (told r (Hears g b))
   unfolding hearBlock assembling
   ticked =
       let s = shiftIn b (r .bits) in
       ways c d (r .hunt) (ltb (r .count) lastBit) (hunting g r c b)
       (unmatched (reception false s (r .count + 1) d) c) (arrived g d c (lastEight s))
       (Complete (lastEight s) (g .checking) (g .polynomial)) in-hunt within whole
+
+hunt-none : (s : State) (xs : List Doing) → Steady (s .reception) (tales s xs)
+unfolding tales entrantsOf
+hunt-none s [] e h x = refl
+hunt-none s (Hears g b ∷ xs) e h x = rw e
+hunt-none s (Searches ∷ xs) e h x = refl
 
 -- behind any ticks, each with its own settings, and any number of searches begun again
 pub register-is : (s : State) (xs : List Doing)
@@ -98,11 +97,13 @@ pub register-is : (s : State) (xs : List Doing)
 unfolding after
 register-is s [] = unfold tales entrantsOf checkThrough in refl
 register-is s (Hears g b ∷ xs) =
-    register-is (does s (Hears g b)) xs ∙ unfold tales in (ticked g (s .reception) (s .check) b xs)
+    register-is (does s (Hears g b)) xs
+    ∙ (unfold tales in (ticked g (s .reception) (s .check) b (tales (does s (Hears g b)) xs)
+    (hunt-none (does s (Hears g b)) xs)))
 register-is s (Searches ∷ xs) =
     register-is (does s Searches) xs ∙ (unfold tales entrantsOf in refl)
 
-through-one : (p c : ℕ) (vs : List ℕ) → checkThrough c (allOver p vs) ≡ checkFrom p c vs
+pub through-one : (p c : ℕ) (vs : List ℕ) → checkThrough c (allOver p vs) ≡ checkFrom p c vs
 unfolding checkThrough allOver textBits
 through-one p c [] = unfold checkOver in refl
 through-one p c (v ∷ vs) =

@@ -6,6 +6,7 @@ use mathlib.Core.Bool.{Bool, true, false, not}
 use mathlib.Core.List.{List, [], _∷_, _++_}
 use Prim.Native.Nat.{ℕ, _+_, _/_, _<_}
 use lib.ListN.{length}
+use Rattle.common.specs.Choice.{if_then_else_}
 use Rattle.common.specs.Mode.{inBlocks}
 use Rattle.line.specs.Bits.{odd, textBits, Below}
 use Rattle.shared.specs.Preset.{zeros}
@@ -14,18 +15,22 @@ use Rattle.queue.specs.Queue.{room}
 use Rattle.queue.specs.Holding.{Holds}
 use Rattle.bytesync.specs.declared.Syncs.{Syncs}
 use Rattle.bytesync.specs.declared.Matching.{Matching}
+use Rattle.bytesync.specs.declared.Reception.{Reception}
 use Rattle.bytesync.specs.Hearing.{searching, expected}
-use Rattle.blocks.specs.Check.{withCheck}
+use Rattle.blocks.specs.Check.{checkFrom, withCheck}
 use Rattle.blocks.specs.Heard.{entriesOf}
 use Rattle.blocks.specs.Characters.{endsOf, patternBits, patternLength, turnAfter, blockGiven}
 use Rattle.blocks.specs.Characters.{blockBytes, letting}
+use Rattle.blocks.specs.Register.{Tale, Hunt, Within, told, entrantsOf, checkThrough, allOver}
+use Rattle.blocks.specs.Register as register
 use Rattle.settings.specs.Settings.{entersHunt}
 use Rattle.channel.specs.Answer.{answerValue}
 use Rattle.chip.specs.declared.Chip.{Chip}
 use Rattle.chip.specs.Event.{Event, ControlWrite, ControlRead}
 use Rattle.stories.specs.Story.{Which, number, chan, happens, after}
-use Rattle.stories.specs.Received.{bitsOf, valuesOf, tookOf, bytesOf}
-use Rattle.terminals.specs.Receiving.Side.{Side, sideOf, momentsOf}
+use Rattle.stories.specs.Received.{Role, Hears, Reads, Else, role, bitIn, bitsOf, valuesOf, tookOf}
+use Rattle.stories.specs.Received.{bytesOf}
+use Rattle.terminals.specs.Receiving.Side.{Side, receivingIn, sideOf, momentsOf}
 use Rattle.terminals.specs.Receiving.Conserved.{Fed}
 
 -- A receiver that is on, hunt begun, its check preset, queue empty. WR6 and WR7 are bytes, and the queue
@@ -48,6 +53,12 @@ syncsOf w c = matchingOf w c .syncs
 
 abbrev pub polynomialAt : Which → Chip → ℕ
 polynomialAt w c = matchingOf w c .polynomial
+
+abbrev pub receptionOf : Which → Chip → Reception
+receptionOf w c = chan w c .receiver .reception
+
+abbrev pub checkOf : Which → Chip → ℕ
+checkOf w c = chan w c .receiver .check
 
 -- "fed a sync, k further syncs, n bytes .. and one character more .., WR3 D3 set for just" the bytes: the
 -- story's bits, and WR3 D3 on the tick that completes each character
@@ -93,6 +104,53 @@ FlipSeen =
     → textBits 8 (v ∷ vs) ≡ xs ++ (not b ∷ ys) → BlockFed w c st k (v ∷ vs) last
     → chan w (after c st) .pointer ≡ 1 → rr1D6 w (after c st) ≡ true
 
+-- The check at every moment
+
+-- since some moment, in the two modes: ticks, on or off, with any settings; and whatever else leaves the
+-- check alone and the receiver as it was or starts its search again
+pub data Since (w : Which) : Chip → List Event → Type 0 where
+  over : {c : Chip} → Since w c []
+  hears : {c : Chip} {e : Event} {st : List Event} {b : Bool} → role w e ≡ Hears b
+      → inBlocks (sideOf w c .heeds .mode) ≡ true → Since w (happens c e .chip) st
+      → Since w c (e ∷ st)
+  searches : {c : Chip} {e : Event} {st : List Event} → bitIn (role w e) ≡ []
+      → receptionOf w (happens c e .chip) ≡ searching true
+      → checkOf w (happens c e .chip) ≡ checkOf w c → Since w (happens c e .chip) st
+      → Since w c (e ∷ st)
+  still : {c : Chip} {e : Event} {st : List Event} → bitIn (role w e) ≡ []
+      → receptionOf w (happens c e .chip) ≡ receptionOf w c
+      → checkOf w (happens c e .chip) ≡ checkOf w c → Since w (happens c e .chip) st
+      → Since w c (e ∷ st)
+
+-- what is heard: on a tick while on, as the receiver tells it; a tick while off, and what else starts
+-- the search, is hunt
+abbrev pub taleOf : Which → Chip → Chip → Role → Tale
+taleOf w c d (Hears b) =
+    let g = receivingIn (chan w c) in
+    if g .on then told (receptionOf w c) (register.Hears (g .matching) b) else Hunt
+taleOf w c d Reads = if receptionOf w d .hunt then Hunt else Within
+taleOf w c d Else = if receptionOf w d .hunt then Hunt else Within
+
+unfoldable pub talesOf : Which → Chip → List Event → List Tale
+talesOf w c [] = []
+talesOf w c (e ∷ st) = let d = happens c e .chip in taleOf w c d (role w e) ∷ talesOf w d st
+
+-- the check is that from there on over just the characters for which WR3 D3 was set when the next one
+-- was complete, each over the polynomial of that tick
+abbrev pub RegisterIs : Type 0
+RegisterIs =
+    (w : Which) (c : Chip) (st : List Event) → Since w c st
+    → let d = receptionOf w c .block in
+    checkOf w (after c st)
+    ≡ checkThrough (checkOf w c) (entrantsOf (d .have) (d .held) (talesOf w c st))
+
+-- over one polynomial and from a preset in hunt: the check of the bytes that entered
+abbrev pub RegisterSincePreset : Type 0
+RegisterSincePreset =
+    (w : Which) (c : Chip) (st : List Event) (p : ℕ) (vs : List ℕ) → receptionOf w c ≡ searching true
+    → checkOf w c ≡ zeros → Since w c st → entrantsOf false 0 (talesOf w c st) ≡ allOver p vs
+    → checkOf w (after c st) ≡ checkFrom p zeros vs
+
 -- RR0 D4
 abbrev pub d4 : Which → Chip → Bool
 d4 w c = odd (answerValue (happens c (ControlRead (number w)) .answer) / 16)
@@ -100,8 +158,8 @@ d4 w c = odd (answerValue (happens c (ControlRead (number w)) .answer) / 16)
 -- "Enter Hunt starts the search again, RR0 D4 showing it": a WR3 write with D4 set, whatever was heard
 -- before; the check stays. D4 is shown unless status was latched
 pub record HuntBegun (w : Which) (c d : Chip) : Type 0 where
-  pub begun : chan w d .receiver .reception ≡ searching true
-  pub check : chan w d .receiver .check ≡ chan w c .receiver .check
+  pub begun : receptionOf w d ≡ searching true
+  pub check : checkOf w d ≡ checkOf w c
   pub queue : chan w d .queue ≡ chan w c .queue
   pub shown : chan w c .status .latched ≡ false → d4 w d ≡ true
 
