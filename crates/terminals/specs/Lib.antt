@@ -1,1 +1,2 @@
 pub mod Receiving
+pub mod Sending

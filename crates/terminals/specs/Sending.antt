@@ -1,0 +1,7 @@
+-- Sending.
+pub mod Side
+pub mod Events
+pub mod Statement
+pub mod Block
+pub mod Shown
+pub mod Chain
