@@ -1,2 +1,3 @@
 pub mod Receiving
 pub mod Sending
+pub mod Together

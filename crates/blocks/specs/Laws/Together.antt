@@ -9,9 +9,11 @@ use native.Mathlib.Omega.{arith}
 use lib.ListN.{length, take, length-append}
 use lib.Seq.{take-at}
 use Rattle.common.specs.Choice.{if_then_else_}
+use Rattle.common.specs.Tools.{if-elim}
 use Rattle.line.specs.Bits.{lowBits, textBits, Below, below-none, below-more}
 use Rattle.line.specs.Check.{topBits}
 use Rattle.line.specs.Laws.Bits.{textBits-join}
+use Rattle.bytesync.specs.declared.Syncs.{Syncs}
 use Rattle.bytesync.specs.declared.Syncing.{Syncing}
 use Rattle.bytesync.specs.declared.Matching.{Matching}
 use Rattle.bytesync.specs.Hearing.{expected, searching}
@@ -19,9 +21,9 @@ use Rattle.shared.specs.Preset.{zeros}
 use Rattle.blocks.specs.Check.{checkFrom, withCheck}
 use Rattle.blocks.specs.Heard.{Moment, hearAll, entriesOf}
 use Rattle.blocks.specs.Characters.{bitsOf, endsOf, patternBits, patternLength, furtherSyncs}
-use Rattle.blocks.specs.Characters.{turnAfter, letting, Feeds}
+use Rattle.blocks.specs.Characters.{turnAfter, blockGiven, blockBytes, letting, Feeds}
 use Rattle.blocks.specs.Come.{Good, syncBits, behind, closed, Act, lineOf, ticks, InTime}
-use Rattle.blocks.specs.Come.{syncLength, started, syncHead}
+use Rattle.blocks.specs.Come.{syncLength, started, syncHead, blockBits}
 use Rattle.blocks.specs.Laws.Check.{withCheck-bits, withCheck-below, withCheck-length}
 use Rattle.blocks.specs.Laws.Check.{below-join}
 use Rattle.blocks.specs.Laws.Brought.{block-fed}
@@ -80,15 +82,51 @@ append-cancel xs ys zs e =
     omega (arith, ap length e, length-append xs zs, length-append ys zs) in
     sym (take-at xs zs (length ys) n) ∙ ap (take (length ys)) e ∙ take-at ys zs (length ys) refl
 
+-- the bits of a block that was sent, up to the character behind the check
+pub line-bytes : (g : Syncing) (vs tail : List ℕ) (bits : List Bool)
+    → bits ++ bitsLeft g tail ≡ blockBits g vs tail
+    → bits ≡ syncBits (g .syncs)
+    ++ textBits 8 (withCheck (g .polynomial) vs ++ (lastByte g tail ∷ []))
+line-bytes g vs tail bits e =
+    let y = syncBits (g .syncs) in
+    let text = textBits 8 (withCheck (g .polynomial) vs ++ (lastByte g tail ∷ [])) in
+    append-cancel bits (y ++ text) (bitsLeft g tail)
+    (e ∙ ap (λ (x : List Bool). y ++ x) (block-bytes g vs tail)
+    ∙ sym (append-assoc y text (bitsLeft g tail)))
+
+-- the other end has the same sync and the same polynomial
+pub record Alike (s : Syncing) (r : Matching) : Type 0 where
+  pub sync : patternBits (r .syncs) ≡ syncBits (s .syncs)
+  pub polynomial : r .polynomial ≡ s .polynomial
+
+pub same-bytes : (s : Syncing) (r : Matching) (vs : List ℕ) (w : ℕ) → Alike s r
+    → syncBits (s .syncs) ++ textBits 8 (withCheck (s .polynomial) vs ++ (w ∷ []))
+    ≡ patternBits (r .syncs)
+    ++ textBits 8 (blockBytes (r .syncs) 0 (withCheck (r .polynomial) vs) w)
+unfolding furtherSyncs
+same-bytes s r vs w a =
+    ap₂ (λ (x : List Bool) (p : ℕ). x ++ textBits 8 (withCheck p vs ++ (w ∷ [])))
+    (sym (a .sync)) (sym (a .polynomial))
+
+pub all-below : (y : Syncs) (p : ℕ) {vs : List ℕ} {w : ℕ} → Below 256 vs → w < 256
+    → Below 256 (blockBytes y 0 (withCheck p vs) w)
+unfolding furtherSyncs
+all-below y p k m = below-join (withCheck-below p k) (below-more m below-none)
+
+-- no further syncs: all is handed over
+pub given-all : (g : Matching) (vs : List ℕ) (w : ℕ) → blockGiven g 0 vs w ≡ vs ++ (w ∷ [])
+unfolding furtherSyncs
+given-all g vs w =
+    if-elim (λ (l : List ℕ). l ++ (vs ++ (w ∷ [])) ≡ vs ++ (w ∷ [])) (g .strip) refl refl
+
 -- what one sends in time, the other hears whole and with a good check: the bits that it hears are
 -- those of the sync, the bytes, the check and one character more
 pub together : (s : Syncing) (r : Matching) (p b v : ℕ) (vs tail : List ℕ) {acts : List Act}
-    → Good s
-    → p ≤ syncLength (s .syncs) → InTime s [] [] (started (s .syncs) p b) (v ∷ vs) tail acts
+    → Good s → p ≤ syncLength (s .syncs)
+    → InTime s [] [] (started (s .syncs) p b) (v ∷ vs) tail acts
     → p + ticks acts
     ≡ 2 * syncLength (s .syncs) + 8 * length (v ∷ vs) + 16 + 8 * length tail
-    → patternBits (r .syncs) ≡ syncBits (s .syncs) → r .polynomial ≡ s .polynomial
-    → r .syncs .first < 256 → r .syncs .second < 256 → r .polynomial < 65536
+    → Alike s r → r .syncs .first < 256 → r .syncs .second < 256 → r .polynomial < 65536
     → v ≢ expected (r .syncs) false → Below 256 (v ∷ vs) → lastByte s tail < 256
     → (i : Bool) (ts : List Moment)
     → bitsOf ts ++ bitsLeft s tail
@@ -97,29 +135,16 @@ pub together : (s : Syncing) (r : Matching) (p b v : ℕ) (vs tail : List ℕ) {
     → let f = hearAll r (searching true) zeros ts in
     (f .got ≡ entriesOf (withCheck (r .polynomial) (v ∷ vs) ++ (lastByte s tail ∷ [])))
     × (f .check ≡ 0)
-together s r p b v vs tail h l t n y q first second small d k m i ts e o =
+together s r p b v vs tail h l t n a first second small d k m i ts e o =
     let w = lastByte s tail in
-    let text = withCheck (s .polynomial) (v ∷ vs) ++ (w ∷ []) in
-    let same : withCheck (s .polynomial) (v ∷ vs) ≡ withCheck (r .polynomial) (v ∷ vs) =
-    ap (λ (x : ℕ). withCheck x (v ∷ vs)) (sym q) in
-    let bits : bitsOf ts ≡ syncBits (s .syncs) ++ textBits 8 text =
-    append-cancel (bitsOf ts) (syncBits (s .syncs) ++ textBits 8 text) (bitsLeft s tail)
-    (e ∙ block-sent s h p b v vs tail l t n
-    ∙ ap (λ (x : List Bool). syncBits (s .syncs) ++ x) (block-bytes s (v ∷ vs) tail)
-    ∙ sym (append-assoc (syncBits (s .syncs)) (textBits 8 text) (bitsLeft s tail))) in
-    let fed : Feeds (r .syncs) 0 (withCheck (r .polynomial) (v ∷ vs)) w ts = record {
-      bits = bits ∙ ap₂ (λ (x : List Bool) (z : List ℕ). x ++ textBits 8 (z ++ (w ∷ [])))
-          (sym y) same
-          ∙ (unfold furtherSyncs in refl);
+    let bytes = withCheck (r .polynomial) (v ∷ vs) in
+    let fed : Feeds (r .syncs) 0 bytes w ts = record {
+      bits =
+          line-bytes s (v ∷ vs) tail (bitsOf ts) (e ∙ block-sent s h p b v vs tail l t n)
+          ∙ same-bytes s r (v ∷ vs) w a;
       first = i;
       lets = o ∙ ap (letting i 0) (sym (withCheck-length (r .polynomial) (v ∷ vs)));
-      below = unfold furtherSyncs in
-          (below-join (withCheck-below (r .polynomial) k) (below-more m below-none));
+      below = all-below (r .syncs) (r .polynomial) k m;
     } in
     let g = block-fed r first second small 0 v w vs ts (unfold turnAfter in d) fed in
-    (g .0 ∙ given (r .strip) (withCheck (r .polynomial) (v ∷ vs) ++ (w ∷ [])), g .1)
-  where
-    given : (z : Bool) (ws : List ℕ)
-        → entriesOf ((if z then [] else furtherSyncs (r .syncs) false 0) ++ ws) ≡ entriesOf ws
-    given true ws = refl
-    given false ws = unfold furtherSyncs in refl
+    (g .0 ∙ ap entriesOf (given-all r bytes w), g .1)
