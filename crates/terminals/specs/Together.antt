@@ -1,5 +1,5 @@
--- Both ends: what channel w of one chip sends in time, channel u of another that listens gives back, with
--- RR1 D6 at 0. Assumes nothing.
+-- Both ends: what channel w of one chip sends in time, channel u of another that listens gives
+-- back, with RR1 D6 at 0. Assumes nothing.
 use mathlib.Core.Path.{_≡_, sym, ap, _∙_, subst}
 use mathlib.Core.Logic.{_≢_}
 use mathlib.Core.Bool.{Bool, false}
@@ -28,8 +28,8 @@ use Rattle.terminals.specs.Sending.Side.{syncingOf}
 use Rattle.terminals.specs.Sending.Statement.{syncsOf, Start, InTime, blockTicks}
 use Rattle.terminals.specs.Sending.Block.{block-sent}
 
--- the bits that r hears are those that c sends, from the first of the sync to the character behind the
--- check; WR3 D3 is set for just the bytes and the check
+-- the bits that r hears are those that c sends, from the first of the sync to the character behind
+-- the check; WR3 D3 is set for just the bytes and the check
 abbrev pub Together : Type 0
 Together =
     (w : Which) (c : Chip) (p v : ℕ) (vs tail : List ℕ) (st : List Event) → Start w c p

@@ -11,7 +11,6 @@ use Rattle.queue.specs.declared.Queue.{Queue}
 use Rattle.queue.specs.Queue.{room, pushed, taken, oldest, waits}
 use Rattle.queue.specs.Laws.{push-holds, read-holds}
 use Rattle.queue.specs.Holding.{Plain, Holds, entryIf}
-use Rattle.bytesync.specs.declared.Matching.{Matching}
 use Rattle.bytesync.specs.declared.Reception.{Reception}
 use Rattle.bytesync.specs.declared.Matched.{Matched}
 use Rattle.bytesync.specs.Hearing.{hearBlock}
@@ -26,8 +25,9 @@ use Rattle.terminals.specs.Receiving.Side.{momentsOf}
 use Rattle.terminals.specs.Receiving.Events.{queuedBy, heardBy, heardSide, readSide, Follows}
 use Rattle.terminals.specs.Receiving.Events.{Hearing, follows}
 
--- "stays on .. read before a fourth character waits and else untouched but for WR3 D3": a tick that hands
--- a character over finds room, reads come as they like, and what else happens leaves the side as it was
+-- "stays on .. read before a fourth character waits and else untouched but for WR3 D3": a tick that
+-- hands a character over finds room, reads come as they like, and what else happens leaves the side
+-- as it was
 
 abbrev pub roomFor : Queue → Matched → Bool
 roomFor q h = not (h .some) || ltb (q .count) room

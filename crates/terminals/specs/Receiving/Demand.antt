@@ -1,37 +1,33 @@
--- Demand 2 for Monosync and Bisync, proved: a block received, and a flipped bit seen. Assumes nothing.
+-- Demand 2 for Monosync and Bisync, proved: a block received, and a flipped bit seen. Assumes
+-- nothing.
 use mathlib.Core.Path.{_≡_, refl, sym, ap, ap₂, _∙_}
-use mathlib.Core.Logic.{_≢_}
 use mathlib.Core.Bool.{Bool, true, false, not}
 use mathlib.Core.List.{List, [], _∷_, _++_, append-nil}
 use Prim.Native.Nat.{ℕ, _/_, _%_, _<_}
 use native.Mathlib.Omega.{arith}
-use lib.Dec.{eqb}
 use borrow.Author.Tests.{ne-eqb}
 use Rattle.common.specs.Mode.{inBlocks}
-use Rattle.common.specs.Tools.{if-elim}
 use Rattle.line.specs.Bits.{odd}
-use Rattle.line.specs.Check.{sdlc}
 use Rattle.shared.specs.Preset.{zeros}
-use Rattle.entry.specs.declared.Entry.{Entry}
 use Rattle.queue.specs.Laws.{three-empty}
 use Rattle.bytesync.specs.declared.Reception.{Reception}
-use Rattle.bytesync.specs.Syncs.{crc16, polynomialOf}
+use Rattle.bytesync.specs.Syncs.{polynomialOf}
 use Rattle.bytesync.specs.Hearing.{searching, wrong}
 use Rattle.blocks.specs.Check.{withCheck}
-use Rattle.blocks.specs.Heard.{Moment, Final, hearAll, before, entriesOf}
+use Rattle.blocks.specs.Heard.{Final, hearAll, before, entriesOf}
 use Rattle.blocks.specs.Characters.{blockGiven, Feeds}
 use Rattle.blocks.specs.Laws.Brought.{block-fed, flipped-fed}
 use Rattle.settings.specs.Settings.{receivingOf}
 use Rattle.chip.specs.declared.Chip.{Chip}
 use Rattle.chip.specs.Event.{Event}
-use Rattle.stories.specs.Story.{Which, A, B, chan, after}
-use Rattle.stories.specs.Received.{valuesOf, tookOf, bytesOf}
+use Rattle.stories.specs.Story.{Which, chan, after}
+use Rattle.stories.specs.Received.{tookOf, bytesOf}
 use Rattle.history.specs.Receiving.Events.{bytes-append, values-are}
-use Rattle.terminals.specs.Receiving.Side.{Heeded, Side, side, sideOf, momentsOf}
-use Rattle.terminals.specs.Receiving.Events.{Hearing, moments-bits}
+use Rattle.terminals.specs.Receiving.Side.{Side, sideOf, momentsOf}
+use Rattle.terminals.specs.Receiving.Events.{moments-bits}
 use Rattle.terminals.specs.Receiving.Conserved.{Fed, Conserved, conserved}
 use Rattle.terminals.specs.Receiving.Statement.{Listening, matchingOf, syncsOf, polynomialAt}
-use Rattle.terminals.specs.Receiving.Statement.{BlockFed, rr1D6, Received, BlockReceived}
+use Rattle.terminals.specs.Receiving.Statement.{BlockFed, rr1D6, BlockReceived}
 use Rattle.terminals.specs.Receiving.Statement.{FlipSeen}
 use Rattle.terminals.specs.Receiving.Shown.{d6-is}
 
@@ -53,7 +49,8 @@ unfolding receivingOf
 polynomial-one w c = with-one (odd (chan w c .registers .wr5 / 4))
 
 -- a story, from hunt begun with the check preset
-module _ (w : Which) (c : Chip) (st : List Event) (l : Listening (sideOf w c)) (f : Fed w c st) where
+module _ (w : Which) (c : Chip) (st : List Event) (l : Listening (sideOf w c))
+    (f : Fed w c st) where
   abbrev x : Side
   x = sideOf w c
 
@@ -73,7 +70,8 @@ module _ (w : Which) (c : Chip) (st : List Event) (l : Listening (sideOf w c)) (
   whole =
       ap₂ (λ (r : Reception) (k : ℕ). hearAll (matchingOf w c) r k (momentsOf w c st))
       (sym (l .begun)) (sym (l .preset))
-      ∙ ap (hearAll (matchingOf w c) (x .reception) (x .check)) (sym (append-nil (momentsOf w c st)))
+      ∙ ap (hearAll (matchingOf w c) (x .reception) (x .check))
+      (sym (append-nil (momentsOf w c st)))
       ∙ kept .whole []
 
   got-is : tookOf w c st ++ kept .waiting ≡ heard .got
@@ -128,6 +126,7 @@ block-received w c st k v last vs l n f =
 pub flip-seen : FlipSeen
 flip-seen w c st k v last text vs xs ys b l e d f q =
     let s = f .story in
-    let h = flipped-fed (matchingOf w c) (l .first) (l .second) (polynomial-small w c) k v last text vs
+    let h = flipped-fed (matchingOf w c) (l .first) (l .second)
+    (polynomial-small w c) k v last text vs
     xs ys b (momentsOf w c st) (polynomial-one w c) e d (feeds w c st k (v ∷ vs) last f) in
     d6-shows w c st l s q ∙ ap not (ne-eqb (heard w c st l s .check) 0 h)

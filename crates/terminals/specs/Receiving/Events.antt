@@ -1,5 +1,5 @@
--- The chip meets the receiving side: what a receive tick and a data read of a channel do to it. Assumes
--- nothing.
+-- The chip meets the receiving side: what a receive tick and a data read of a channel do to it.
+-- Assumes nothing.
 use mathlib.Core.Path.{_≡_, refl, sym, ap, _∙_}
 use mathlib.Core.Bool.{Bool, true, false, not}
 use mathlib.Core.List.{List, [], _∷_, _++_}
@@ -30,7 +30,7 @@ use Rattle.chip.specs.declared.Chip.{Chip}
 use Rattle.chip.specs.Chip.{inA, inB, onLevel, dataReadCall, receiveCall}
 use Rattle.chip.specs.Event.{Event, HardReset, ControlWrite, ControlRead, DataWrite, DataRead}
 use Rattle.chip.specs.Event.{Transmit, Receive, SetLines, Acknowledge, Reti}
-use Rattle.stories.specs.Story.{Which, A, B, number, chan, happens}
+use Rattle.stories.specs.Story.{Which, A, B, number, happens}
 use Rattle.stories.specs.Received.{Role, Hears, Reads, Else, role, bitIn, bitsOf}
 use Rattle.terminals.specs.Receiving.Side.{Heeded, heeded, Side, side, receivingIn, sideIn}
 use Rattle.terminals.specs.Receiving.Side.{sideOf, checkingOf, momentIn, momentsOf}
@@ -105,11 +105,13 @@ unfolding receiveCall
 tick-follows A c bit h =
     elim (leb 2 bit) as (λ t. Follows A c (inA c (if t then answered (Refused refusal.Level) (c .a)
     else answered Done (receiveTick (c .a) (onLevel bit))) .chip)
-    (if t then Else else Hears (onLevel bit))) [ true ↦ tt | false ↦ heard-in (c .a) (onLevel bit) h ]
+    (if t then Else else Hears (onLevel bit)))
+    [ true ↦ tt | false ↦ heard-in (c .a) (onLevel bit) h ]
 tick-follows B c bit h =
     elim (leb 2 bit) as (λ t. Follows B c (inB c (if t then answered (Refused refusal.Level) (c .b)
     else answered Done (receiveTick (c .b) (onLevel bit))) .chip)
-    (if t then Else else Hears (onLevel bit))) [ true ↦ tt | false ↦ heard-in (c .b) (onLevel bit) h ]
+    (if t then Else else Hears (onLevel bit)))
+    [ true ↦ tt | false ↦ heard-in (c .b) (onLevel bit) h ]
 
 -- with none waiting a read changes nothing
 taken-none : (q : Queue) → waits q ≡ false → taken q ≡ q
@@ -120,7 +122,8 @@ taken-none q e =
 read-in : (c : Channel) → sideIn (dataRead c .channel) ≡ readSide (sideIn c)
 unfolding dataRead
 read-in c =
-    by-test (λ (d : Answered). sideIn (d .channel) ≡ readSide (sideIn c)) (waits (c .queue)) (λ e. refl)
+    by-test (λ (d : Answered). sideIn (d .channel) ≡ readSide (sideIn c)) (waits (c .queue))
+    (λ e. refl)
     (λ e. ap (λ (q : Queue).
     side (c .receiver .reception) (c .receiver .check) q (heeded (receivingIn c)))
     (sym (taken-none (c .queue) e)))

@@ -1,5 +1,5 @@
 -- Enter Hunt in Monosync and Bisync: the search starts again, and RR0 D4 shows it. Assumes nothing.
-use mathlib.Core.Path.{_≡_, refl, sym, ap, _∙_}
+use mathlib.Core.Path.{_≡_, refl, ap, _∙_}
 use mathlib.Core.Bool.{Bool, true, false, _&&_, _||_}
 use Prim.Native.Nat.{ℕ}
 use lib.Dec.{eqb}
@@ -8,10 +8,9 @@ use Rattle.common.specs.Mode.{inSdlc, inBlocks, synchronous}
 use Rattle.common.specs.Tools.{if-elim, void}
 use Rattle.common.specs.declared.Mode.{Mode}
 use Rattle.common.specs.declared.Mode.the-variants.{NoMode, Asynchronous, Monosync, Bisync, Sdlc}
-use Rattle.bytesync.specs.Hearing.{searching}
 use Rattle.receiver.specs.declared.Receiver.{Receiver}
 use Rattle.receiver.specs.Receiver.{enterHunt}
-use Rattle.settings.specs.Settings.{store3, entersHunt, modeIn, notBuilt, receivingOf}
+use Rattle.settings.specs.Settings.{store3, entersHunt, modeIn, receivingOf}
 use Rattle.status.specs.declared.Live.{Live}
 use Rattle.status.specs.declared.Status.{Status}
 use Rattle.status.specs.Status.{status, changed, noticed, shownBits}
@@ -24,7 +23,6 @@ use Rattle.chip.specs.declared.Chip.{Chip}
 use Rattle.chip.specs.Chip.{serviceBy, controlWriteA, controlWrite}
 use Rattle.chip.specs.Interrupts.{inService}
 use Rattle.stories.specs.Story.{Which, A, B, chan}
-use Rattle.terminals.specs.Receiving.Side.{sideOf}
 use Rattle.terminals.specs.Receiving.Statement.{HuntBegun, HuntAgain}
 use Rattle.terminals.specs.Receiving.Shown.{d4-is}
 

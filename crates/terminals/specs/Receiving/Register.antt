@@ -1,7 +1,7 @@
 -- The receive check of a chip in Monosync or Bisync, at every moment. Assumes nothing.
 use mathlib.Core.Path.{_≡_, refl, sym, ap, ap₂, _∙_, subst}
 use mathlib.Core.Bool.{Bool, true, false}
-use mathlib.Core.List.{List, [], _∷_, _++_}
+use mathlib.Core.List.{List, [], _∷_}
 use Prim.Native.Nat.{ℕ}
 use lib.Dec.{leb}
 use Rattle.common.specs.Choice.{if_then_else_}
@@ -10,10 +10,7 @@ use Rattle.common.specs.Tools.{eqb-elim, bool-or, void}
 use Rattle.common.specs.declared.Refusal.the-variants as refusal
 use Rattle.shared.specs.Preset.{zeros}
 use Rattle.bytesync.specs.declared.Reception.{Reception}
-use Rattle.bytesync.specs.declared.Block.{Block}
-use Rattle.bytesync.specs.declared.Matched.{Matched}
 use Rattle.bytesync.specs.Hearing.{searching, hearBlock}
-use Rattle.blocks.specs.Check.{checkFrom}
 use Rattle.blocks.specs.Register.{Tale, Hunt, Within, told, entrantsOf, checkThrough}
 use Rattle.blocks.specs.Register as register
 use Rattle.blocks.specs.Laws.Register.{Steady, ticked, through-one}
@@ -21,7 +18,6 @@ use Rattle.receiver.specs.declared.Receiver.{Receiver}
 use Rattle.receiver.specs.declared.Heard.{Heard}
 use Rattle.receiver.specs.Receiver.{byMatched, dropped, hear}
 use Rattle.channel.specs.declared.Answer.the-variants.{Done, Refused}
-use Rattle.channel.specs.declared.Channel.{Channel}
 use Rattle.channel.specs.Channel.{answered, settled}
 use Rattle.channel.specs.Events.{receiveTick}
 use Rattle.chip.specs.declared.Chip.{Chip}
@@ -50,11 +46,13 @@ tick-receiver : (w : Which) (c : Chip) (bit : ℕ)
     (if leb 2 bit then Else else Hears (onLevel bit))
 unfolding receiveCall receiveTick settled
 tick-receiver A c bit =
-    elim (leb 2 bit) as (λ t. ReceiverIs A c (inA c (if t then answered (Refused refusal.Level) (c .a)
+    elim (leb 2 bit) as (λ t. ReceiverIs A c
+    (inA c (if t then answered (Refused refusal.Level) (c .a)
     else answered Done (receiveTick (c .a) (onLevel bit))) .chip)
     (if t then Else else Hears (onLevel bit))) [ true ↦ tt | false ↦ refl ]
 tick-receiver B c bit =
-    elim (leb 2 bit) as (λ t. ReceiverIs B c (inB c (if t then answered (Refused refusal.Level) (c .b)
+    elim (leb 2 bit) as (λ t. ReceiverIs B c
+    (inB c (if t then answered (Refused refusal.Level) (c .b)
     else answered Done (receiveTick (c .b) (onLevel bit))) .chip)
     (if t then Else else Hears (onLevel bit))) [ true ↦ tt | false ↦ refl ]
 
@@ -101,8 +99,11 @@ tale-steady : (w : Which) (c d : Chip) (b : Bool) (ts : List Tale)
     → Steady (receptionOf w c) (taleOf w c d (Hears b) ∷ ts)
 tale-steady w c d b ts k h x = go (receivingIn (chan w c) .on)
   where
-    go : (o : Bool) → let t = told (receptionOf w c) (register.Hears (receivingIn (chan w c) .matching) b) in
-        entrantsOf h x ((if o then t else Hunt) ∷ ts) ≡ entrantsOf false 0 ((if o then t else Hunt) ∷ ts)
+    go : (o : Bool)
+        → let g = receivingIn (chan w c) in
+        let t = told (receptionOf w c) (register.Hears (g .matching) b) in
+        entrantsOf h x ((if o then t else Hunt) ∷ ts)
+        ≡ entrantsOf false 0 ((if o then t else Hunt) ∷ ts)
     go true = unfold entrantsOf in rw k
     go false = unfold entrantsOf in refl
 

@@ -1,6 +1,6 @@
--- What RR0 and RR1 show of the receiver in Monosync and Bisync: D6 of RR1 is the check's, at all times, and
--- D4 of RR0 is hunt. Assumes nothing.
-use mathlib.Core.Path.{_≡_, refl, sym, ap, _∙_}
+-- What RR0 and RR1 show of the receiver in Monosync and Bisync: D6 of RR1 is the check's, at all
+-- times, and D4 of RR0 is hunt. Assumes nothing.
+use mathlib.Core.Path.{_≡_, ap, _∙_}
 use mathlib.Core.Bool.{Bool, true, false}
 use Prim.Native.Nat.{ℕ, _+_, _/_, _%_, _≤_}
 use native.Mathlib.Omega.{arith}
@@ -9,12 +9,11 @@ use Rattle.common.specs.Bit.{placed}
 use Rattle.common.specs.Choice.{if_then_else_}
 use Rattle.common.specs.Mode.{inBlocks}
 use Rattle.line.specs.Bits.{odd}
-use Rattle.entry.specs.declared.Entry.{Entry}
 use Rattle.queue.specs.declared.Queue.{Queue}
 use Rattle.queue.specs.Queue.{waits, oldest, rr1, rr1Told}
 use Rattle.bytesync.specs.Hearing.{wrong}
 use Rattle.sender.specs.Sender.{allSent, bufferReady}
-use Rattle.settings.specs.Settings.{modeIn, sendingOf, receivingOf}
+use Rattle.settings.specs.Settings.{sendingOf, receivingOf}
 use Rattle.status.specs.Status.{shownBits}
 use Rattle.channel.specs.declared.Channel.{Channel}
 use Rattle.channel.specs.Channel.{liveOf}
@@ -59,7 +58,8 @@ unfolding rr1Now receivingOf
 rr1-d6 c m =
     let sent = allSent (sendingOf (c .registers) (c .lines)) (c .sender) in
     ap (λ (b : Bool).
-    odd ((if b then rr1Told (c .queue) sent (wrong (c .receiver .check)) else rr1 (c .queue) sent) / 64))
+    odd ((if b then rr1Told (c .queue) sent (wrong (c .receiver .check))
+    else rr1 (c .queue) sent) / 64))
     m ∙ told-d6 (c .queue) sent (wrong (c .receiver .check))
 
 read-rr1 : (c : Channel) (pending : Bool) (vector : ℕ) → c .pointer ≡ 1
@@ -80,7 +80,8 @@ d6-is B c m p = ap (λ (v : ℕ). odd (v / 64)) (read-rr1 (c .b) false (rr2 c) p
 -- RR0 D4
 
 d4-of : (low : ℕ) (hunt cts underrun abort : Bool) → low ≤ 15
-    → odd ((low + placed hunt 16 + placed cts 32 + placed underrun 64 + placed abort 128) / 16) ≡ hunt
+    → odd ((low + placed hunt 16 + placed cts 32 + placed underrun 64 + placed abort 128) / 16)
+    ≡ hunt
 d4-of low true cts underrun abort h =
     let e : (low + 16 + placed cts 32 + placed underrun 64 + placed abort 128) / 16 % 2 ≡ 1 =
     bits cts underrun abort in

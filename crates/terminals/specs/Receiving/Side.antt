@@ -1,6 +1,6 @@
--- The receiving side of a channel in Monosync and Bisync: its part of the receiver, the check, the queue,
--- and what registers and lines say to it, WR3 D3 apart, which the host may change from tick to tick.
--- Assumes nothing.
+-- The receiving side of a channel in Monosync and Bisync: its part of the receiver, the check, the
+-- queue, and what registers and lines say to it, WR3 D3 apart, which the host may change from tick
+-- to tick. Assumes nothing.
 use mathlib.Core.Bool.{Bool, false}
 use mathlib.Core.List.{List, [], _∷_, _++_}
 use Prim.Native.Nat.{ℕ}

@@ -1,5 +1,5 @@
--- Demand 2 for Monosync and Bisync, over stories in which everything else may happen too, for either
--- channel of any chip and both polynomials. Proofs: Demand, Register, Hunt. Assumes nothing.
+-- Demand 2 for Monosync and Bisync, over stories in which everything else may happen too, for
+-- either channel of any chip and both polynomials. Proofs: Demand, Register, Hunt. Assumes nothing.
 use mathlib.Core.Path.{_≡_}
 use mathlib.Core.Logic.{_≢_}
 use mathlib.Core.Bool.{Bool, true, false, not}
@@ -33,8 +33,8 @@ use Rattle.stories.specs.Received.{bytesOf}
 use Rattle.terminals.specs.Receiving.Side.{Side, receivingIn, sideOf, momentsOf}
 use Rattle.terminals.specs.Receiving.Conserved.{Fed}
 
--- A receiver that is on, hunt begun, its check preset, queue empty. WR6 and WR7 are bytes, and the queue
--- has three places: every chip with a history has them
+-- A receiver that is on, hunt begun, its check preset, queue empty. WR6 and WR7 are bytes, and the
+-- queue has three places: every chip with a history has them
 pub record Listening (x : Side) : Type 0 where
   pub mode : inBlocks (x .heeds .mode) ≡ true
   pub on : x .heeds .on ≡ true
@@ -60,9 +60,10 @@ receptionOf w c = chan w c .receiver .reception
 abbrev pub checkOf : Which → Chip → ℕ
 checkOf w c = chan w c .receiver .check
 
--- "fed a sync, k further syncs, n bytes .. and one character more .., WR3 D3 set for just" the bytes: the
--- story's bits, and WR3 D3 on the tick that completes each character
-pub record BlockFed (w : Which) (c : Chip) (st : List Event) (k : ℕ) (vs : List ℕ) (last : ℕ) : Type 0 where
+-- "fed a sync, k further syncs, n bytes .. and one character more .., WR3 D3 set for just" the
+-- bytes: the story's bits, and WR3 D3 on the tick that completes each character
+pub record BlockFed (w : Which) (c : Chip) (st : List Event) (k : ℕ) (vs : List ℕ)
+    (last : ℕ) : Type 0 where
   pub story : Fed w c st
   pub bits : bitsOf w st
       ≡ patternBits (syncsOf w c) ++ textBits 8 (blockBytes (syncsOf w c) k vs last)
@@ -75,19 +76,21 @@ pub record BlockFed (w : Which) (c : Chip) (st : List Event) (k : ℕ) (vs : Lis
 abbrev pub rr1D6 : Which → Chip → Bool
 rr1D6 w c = odd (answerValue (happens c (ControlRead (number w)) .answer) / 64)
 
--- behind the story: what was read, followed by what waits, is this, never with a mark; no latch of RR1
--- has changed, and RR1 D6 is bad
-pub record Received (w : Which) (c : Chip) (st : List Event) (bytes : List ℕ) (bad : Bool) : Type 0 where
+-- behind the story: what was read, followed by what waits, is this, never with a mark; no latch of
+-- RR1 has changed, and RR1 D6 is bad
+pub record Received (w : Which) (c : Chip) (st : List Event) (bytes : List ℕ)
+    (bad : Bool) : Type 0 where
   pub waiting : List Entry
-  pub holds : Holds (chan w c .queue .parity) (chan w c .queue .overrun) (chan w (after c st) .queue)
+  pub holds : Holds (chan w c .queue .parity) (chan w c .queue .overrun)
+      (chan w (after c st) .queue)
       waiting
   pub values : valuesOf w c st ++ bytesOf waiting ≡ bytes
   pub marks : tookOf w c st ++ waiting ≡ entriesOf bytes
   pub d6 : chan w (after c st) .pointer ≡ 1 → rr1D6 w (after c st) ≡ bad
 
--- n bytes, of which the first is no sync, and the two of their check: the further syncs, none of them if
--- WR3 D1 is set, the bytes, the check and the last character, and D6 reads 0 from the tick that completes
--- it
+-- n bytes, of which the first is no sync, and the two of their check: the further syncs, none of
+-- them if WR3 D1 is set, the bytes, the check and the last character, and D6 reads 0 from the tick
+-- that completes it
 abbrev pub BlockReceived : Type 0
 BlockReceived =
     (w : Which) (c : Chip) (st : List Event) (k v last : ℕ) (vs : List ℕ) → Listening (sideOf w c)
@@ -106,8 +109,8 @@ FlipSeen =
 
 -- The check at every moment
 
--- since some moment, in the two modes: ticks, on or off, with any settings; and whatever else leaves the
--- check alone and the receiver as it was or starts its search again
+-- since some moment, in the two modes: ticks, on or off, with any settings; and whatever else
+-- leaves the check alone and the receiver as it was or starts its search again
 pub data Since (w : Which) : Chip → List Event → Type 0 where
   over : {c : Chip} → Since w c []
   hears : {c : Chip} {e : Event} {st : List Event} {b : Bool} → role w e ≡ Hears b
@@ -122,8 +125,8 @@ pub data Since (w : Which) : Chip → List Event → Type 0 where
       → checkOf w (happens c e .chip) ≡ checkOf w c → Since w (happens c e .chip) st
       → Since w c (e ∷ st)
 
--- what is heard: on a tick while on, as the receiver tells it; a tick while off, and what else starts
--- the search, is hunt
+-- what is heard: on a tick while on, as the receiver tells it; a tick while off, and what else
+-- starts the search, is hunt
 abbrev pub taleOf : Which → Chip → Chip → Role → Tale
 taleOf w c d (Hears b) =
     let g = receivingIn (chan w c) in
@@ -135,8 +138,8 @@ unfoldable pub talesOf : Which → Chip → List Event → List Tale
 talesOf w c [] = []
 talesOf w c (e ∷ st) = let d = happens c e .chip in taleOf w c d (role w e) ∷ talesOf w d st
 
--- the check is that from there on over just the characters for which WR3 D3 was set when the next one
--- was complete, each over the polynomial of that tick
+-- the check is that from there on over just the characters for which WR3 D3 was set when the next
+-- one was complete, each over the polynomial of that tick
 abbrev pub RegisterIs : Type 0
 RegisterIs =
     (w : Which) (c : Chip) (st : List Event) → Since w c st
@@ -147,7 +150,8 @@ RegisterIs =
 -- over one polynomial and from a preset in hunt: the check of the bytes that entered
 abbrev pub RegisterSincePreset : Type 0
 RegisterSincePreset =
-    (w : Which) (c : Chip) (st : List Event) (p : ℕ) (vs : List ℕ) → receptionOf w c ≡ searching true
+    (w : Which) (c : Chip) (st : List Event) (p : ℕ) (vs : List ℕ)
+    → receptionOf w c ≡ searching true
     → checkOf w c ≡ zeros → Since w c st → entrantsOf false 0 (talesOf w c st) ≡ allOver p vs
     → checkOf w (after c st) ≡ checkFrom p zeros vs
 
@@ -155,8 +159,8 @@ RegisterSincePreset =
 abbrev pub d4 : Which → Chip → Bool
 d4 w c = odd (answerValue (happens c (ControlRead (number w)) .answer) / 16)
 
--- "Enter Hunt starts the search again, RR0 D4 showing it": a WR3 write with D4 set, whatever was heard
--- before; the check stays. D4 is shown unless status was latched
+-- "Enter Hunt starts the search again, RR0 D4 showing it": a WR3 write with D4 set, whatever was
+-- heard before; the check stays. D4 is shown unless status was latched
 pub record HuntBegun (w : Which) (c d : Chip) : Type 0 where
   pub begun : receptionOf w d ≡ searching true
   pub check : checkOf w d ≡ checkOf w c

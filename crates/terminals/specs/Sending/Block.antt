@@ -1,9 +1,9 @@
--- A block sent in time: what was sent, followed by what is to come, is the block at every moment. One
--- induction over the story. Assumes nothing.
-use mathlib.Core.Path.{_≡_, refl, sym, ap, ap₂, _∙_, subst}
-use mathlib.Core.Bool.{Bool, true, false}
+-- A block sent in time: what was sent, followed by what is to come, is the block at every moment.
+-- One induction over the story. Assumes nothing.
+use mathlib.Core.Path.{_≡_, refl, sym, ap, _∙_, subst}
+use mathlib.Core.Bool.{Bool, false}
 use mathlib.Core.List.{List, [], _∷_, _++_, append-assoc, append-nil}
-use Prim.Native.Nat.{ℕ, _+_, _*_, _≤_}
+use Prim.Native.Nat.{ℕ, _+_, _≤_}
 use native.Mathlib.Omega.{arith}
 use lib.ListN.{length, take, length-append}
 use lib.Seq.{take-at, length-take-le}
@@ -13,17 +13,19 @@ use Rattle.shared.specs.Shared.{shared}
 use Rattle.bytesync.specs.declared.BlockUnit.the-variants.{Sync}
 use Rattle.bytesync.specs.declared.Syncing.{Syncing}
 use Rattle.bytesync.specs.Sending.{tickBlock}
-use Rattle.blocks.specs.Come.{Sends, sends, ticked, filledWith, syncBits, closed, toCome, inTime, Stage}
-use Rattle.blocks.specs.Come.{opening, syncLength, syncHead, blockBits}
+use Rattle.blocks.specs.Come.{Sends, sends, ticked, filledWith, syncBits, closed, toCome, inTime}
+use Rattle.blocks.specs.Come.{Stage}
+use Rattle.blocks.specs.Come.{opening, syncHead, blockBits}
 use Rattle.blocks.specs.Laws.Come.{takes, moves, moves-behind}
 use Rattle.blocks.specs.Laws.Sent.{no-bits, sync-length, closed-length}
 use Rattle.chip.specs.declared.Chip.{Chip}
 use Rattle.chip.specs.Event.{Event, DataWrite, Transmit}
 use Rattle.stories.specs.Story.{Which, number, chan, happens, after}
 use Rattle.stories.specs.Sent.{ticksBy, isTick, lineOf, ticks}
-use Rattle.history.specs.Sending.Events.{tick-counts, write-no-tick, skip-line, skip-ticks, line-length}
+use Rattle.history.specs.Sending.Events.{tick-counts, write-no-tick, skip-line, skip-ticks}
+use Rattle.history.specs.Sending.Events.{line-length}
 use Rattle.terminals.specs.Sending.Side.{Heeded, Good, SenderSide, side, sideOf, syncingOf}
-use Rattle.terminals.specs.Sending.Events.{tickedOf, tick-side, tick-bit, write-side}
+use Rattle.terminals.specs.Sending.Events.{tick-side, tick-bit, write-side}
 use Rattle.terminals.specs.Sending.Statement.{syncsOf, Start, InTime, over, still, writes}
 use Rattle.terminals.specs.Sending.Statement.{writes-behind, ticking, blockTicks, BlockSent}
 use Rattle.terminals.specs.Sending.Statement.{BlockBegun}
@@ -59,26 +61,33 @@ pub conserved : (w : Which) {left more : List ℕ} {c : Chip} {rest tail : List 
     → Conserved w c st h s rest tail left more
 unfolding lineOf ticks after
 conserved w over h d s e g l = record { last = s; there = e; stage = g; whole = refl }
-conserved w {left} {more} (still {c = c} {rest = rest} {tail = tail} {e = x} {st = st} r k i) h d s e g l =
+conserved w {left} {more} (still {c = c} {rest = rest} {tail = tail} {e = x} {st = st} r k i)
+    h d s e g l =
     let z = ap ticksBy r in
     skip w c x st h s s rest tail rest tail left more z refl
     (conserved w i h d s (k ∙ e) g (omega (arith, skip-ticks w x st z)))
-conserved w {left} {more} (writes {c = c} {v = v} {rest = rest} {tail = tail} {st = st} f i) h d s e g l =
+conserved w {left} {more} (writes {c = c} {v = v} {rest = rest} {tail = tail} {st = st} f i)
+    h d s e g l =
     let m = moves (h .syncing) g (sym (ap (λ (x : SenderSide). x .sender .shared .full) e) ∙ f) in
     let z = write-no-tick w v in
-    skip w c (DataWrite (number w) v) st h s (filledWith s v) (v ∷ rest) tail rest tail left more z (m .0)
+    skip w c (DataWrite (number w) v) st h s (filledWith s v) (v ∷ rest) tail rest tail left more z
+    (m .0)
     (conserved w i h d (filledWith s v)
-    (write-side w c v ∙ ap (λ (x : SenderSide). side (filledWith (x .sender) v) (x .heeds)) e) (m .1)
+    (write-side w c v ∙ ap (λ (x : SenderSide). side (filledWith (x .sender) v) (x .heeds)) e)
+    (m .1)
     (omega (arith, ap length (m .0), skip-ticks w (DataWrite (number w) v) st z)))
-conserved w {left} {more} (writes-behind {c = c} {v = v} {rest = rest} {tail = tail} {st = st} b f i)
+conserved w {left} {more}
+    (writes-behind {c = c} {v = v} {rest = rest} {tail = tail} {st = st} b f i)
     h d s e g l =
     let m = moves-behind (h .syncing) g
     (sym (ap (λ (x : SenderSide). x .sender .shared .latch) e) ∙ b)
     (sym (ap (λ (x : SenderSide). x .sender .shared .full) e) ∙ f) in
     let z = write-no-tick w v in
-    skip w c (DataWrite (number w) v) st h s (filledWith s v) rest (v ∷ tail) rest tail left more z (m .0)
+    skip w c (DataWrite (number w) v) st h s (filledWith s v) rest (v ∷ tail) rest tail left more z
+    (m .0)
     (conserved w i h d (filledWith s v)
-    (write-side w c v ∙ ap (λ (x : SenderSide). side (filledWith (x .sender) v) (x .heeds)) e) (m .1)
+    (write-side w c v ∙ ap (λ (x : SenderSide). side (filledWith (x .sender) v) (x .heeds)) e)
+    (m .1)
     (omega (arith, ap length (m .0), skip-ticks w (DataWrite (number w) v) st z)))
 conserved w {left} {more} (ticking {c = c} {rest = rest} {tail = tail} {st = st} f i) h d s e g l =
     let o = rw (tick-counts w) at l in
@@ -109,7 +118,8 @@ abbrev startAt : ℕ → ℕ → ℕ → Sends
 startAt n x b = sends (Sync n x) (shared b false false zeros)
 
 start-side : (w : Which) (c : Chip) (p : ℕ) (s : Start w c p)
-    → sideOf w c ≡ side (startAt (s .n) (s .x) (chan w c .sender .shared .buffer)) (sideOf w c .heeds)
+    → sideOf w c ≡ side (startAt (s .n) (s .x) (chan w c .sender .shared .buffer))
+    (sideOf w c .heeds)
 start-side w c p s =
     let k = chan w c .sender .shared in
     λ i. side (sends (s .sync i) (shared (k .buffer) (s .empty i) (s .cleared i) (s .preset i)))

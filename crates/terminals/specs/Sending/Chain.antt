@@ -1,9 +1,9 @@
--- Two blocks in a row: where one has ended, the check preset and the latch cleared, the next starts.
--- Assumes nothing.
-use mathlib.Core.Path.{_≡_, refl, sym, ap, ap₂, _∙_, subst}
+-- Two blocks in a row: where one has ended, the check preset and the latch cleared, the next
+-- starts. Assumes nothing.
+use mathlib.Core.Path.{_≡_, refl, sym, ap, _∙_, subst}
 use mathlib.Core.Bool.{Bool, true, false}
 use mathlib.Core.List.{List, [], _∷_, _++_, append-nil}
-use Prim.Native.Nat.{ℕ, zero, suc, _+_, _*_, _≤_}
+use Prim.Native.Nat.{ℕ, zero, suc, _+_, _≤_}
 use native.Mathlib.Omega.{arith}
 use lib.Dec.{eqb}
 use lib.ListN.{length, take, length-append}
@@ -19,7 +19,7 @@ use Rattle.shared.specs.Shared.{shared}
 use Rattle.bytesync.specs.declared.Syncs.{Syncs}
 use Rattle.bytesync.specs.declared.BlockUnit.the-variants.{Sync}
 use Rattle.bytesync.specs.declared.Syncing.{Syncing}
-use Rattle.blocks.specs.Come.{Sends, sends, syncBits, behind, closed, waiting, toCome, Stage, atMark}
+use Rattle.blocks.specs.Come.{Sends, syncBits, behind, closed, waiting, toCome, Stage, atMark}
 use Rattle.blocks.specs.Come.{opening, inByte, inCheck, inTail, closing, syncLength, syncHead}
 use Rattle.blocks.specs.Laws.Sent.{sync-length, closed-length}
 use Rattle.sender.specs.declared.Sender.{Sender}
@@ -29,16 +29,17 @@ use Rattle.channel.specs.declared.Side as channel
 use Rattle.channel.specs.declared.Side.the-variants as channels
 use Rattle.channel.specs.declared.Channel.{Channel}
 use Rattle.channel.specs.Channel.{settled}
-use Rattle.channel.specs.Control.{commanded, preset, commandStep, presetStep, writeWr0, controlWritten}
+use Rattle.channel.specs.Control.{commanded, preset, commandStep, presetStep, writeWr0}
+use Rattle.channel.specs.Control.{controlWritten}
 use Rattle.chip.specs.declared.Chip.{Chip}
 use Rattle.chip.specs.Chip.{controlWriteA, controlWrite}
-use Rattle.chip.specs.Event.{Event, ControlWrite}
+use Rattle.chip.specs.Event.{ControlWrite}
 use Rattle.stories.specs.Story.{Which, A, B, number, chan, happens, after}
 use Rattle.stories.specs.Sent.{ticks}
 use Rattle.history.specs.Sending.Side.{sendingIn}
-use Rattle.terminals.specs.Sending.Side.{Heeded, heeded, Good, SenderSide, side, sideOf}
+use Rattle.terminals.specs.Sending.Side.{Heeded, heeded, Good, SenderSide, sideOf}
 use Rattle.terminals.specs.Sending.Side.{syncingOf}
-use Rattle.terminals.specs.Sending.Statement.{syncsOf, Start, InTime, blockTicks, anew, NextBlock}
+use Rattle.terminals.specs.Sending.Statement.{syncsOf, Start, blockTicks, anew, NextBlock}
 use Rattle.terminals.specs.Sending.Block.{kept, all-come}
 
 -- Where nothing is to come the closing sync has ended
@@ -153,7 +154,8 @@ starts w c x u f p g =
     let a = write-preset w c p in
     let b = write-clear w d (a .pointer) in
     let e = happens d (ControlWrite (number w) 0b11000000) .chip in
-    let s : chan w e .sender ≡ latchCleared (checkPreset (modeIn (chan w c .registers)) (chan w c .sender)) =
+    let s : chan w e .sender ≡ latchCleared
+    (checkPreset (modeIn (chan w c .registers)) (chan w c .sender)) =
     b .sender ∙ ap latchCleared (a .sender) in
     let q : sideOf w e .heeds ≡ sideOf w c .heeds = b .settings ∙ a .settings in
     let y = syncsOf w c in
@@ -161,7 +163,8 @@ starts w c x u f p g =
     unfold lowBits in (append-nil (syncHead y (syncLength y))
     ∙ ap (λ (n : ℕ). take n (syncBits y)) (sym (sync-length y)) ∙ take-length (syncBits y)) in
     record {
-      inside = subst (λ (h : Heeded). syncLength y ≤ syncLength (h .syncing .syncs)) (sym q) (omega arith);
+      inside = subst (λ (h : Heeded). syncLength y ≤ syncLength (h .syncing .syncs)) (sym q)
+          (omega arith);
       n = 0;
       x = x;
       sync = ap (λ (t : Sender). t .block) s ∙ u;

@@ -1,7 +1,8 @@
--- What a tick and a data write do to the sender's side, and which bit a tick gives. Assumes nothing.
+-- What a tick and a data write do to the sender's side, and which bit a tick gives. Assumes
+-- nothing.
 use mathlib.Core.Path.{_≡_, refl, ap, _∙_}
 use mathlib.Core.Bool.{Bool, true, false}
-use mathlib.Core.List.{List, [], _∷_}
+use mathlib.Core.List.{[], _∷_}
 use Prim.Native.Nat.{ℕ}
 use Rattle.common.specs.Mode.{inBlocks}
 use Rattle.common.specs.Tools.{void}
@@ -10,7 +11,7 @@ use Rattle.common.specs.declared.Mode.the-variants.{NoMode, Asynchronous, Monos
 use Rattle.line.specs.Bits.{oneIf}
 use Rattle.bytesync.specs.declared.Synced.{Synced}
 use Rattle.bytesync.specs.Sending.{tickBlock}
-use Rattle.blocks.specs.Come.{Sends, sends, ticked, filledWith}
+use Rattle.blocks.specs.Come.{sends, ticked, filledWith}
 use Rattle.sender.specs.declared.Sender.{Sender}
 use Rattle.sender.specs.declared.Sending.{Sending}
 use Rattle.sender.specs.declared.Ticked.{Ticked}
@@ -23,7 +24,7 @@ use Rattle.chip.specs.Event.{DataWrite, Transmit}
 use Rattle.stories.specs.Story.{Which, A, B, number, chan, happens}
 use Rattle.stories.specs.Sent.{isTick, lineBit}
 use Rattle.history.specs.Sending.Side.{sendingIn}
-use Rattle.terminals.specs.Sending.Side.{Heeded, Good, SenderSide, side, sideOf}
+use Rattle.terminals.specs.Sending.Side.{Good, SenderSide, side, sideOf}
 
 tick-blocks : (g : Sending) (s : Sender) → inBlocks (g .mode) ≡ true → tick g s ≡ tickInBlocks g s
 unfolding tick

@@ -1,9 +1,8 @@
--- The tick that finds the line dry sends the check's first bit and sets the latch, and RR0 D6 shows it.
--- Assumes nothing.
-use mathlib.Core.Path.{_≡_, refl, sym, ap, _∙_}
+-- The tick that finds the line dry sends the check's first bit and sets the latch, and RR0 D6 shows
+-- it. Assumes nothing.
+use mathlib.Core.Path.{_≡_, refl, ap, _∙_}
 use mathlib.Core.Bool.{Bool, true, false}
-use mathlib.Core.List.{List, [], _∷_, _++_, append-nil}
-use Prim.Native.Nat.{ℕ}
+use mathlib.Core.List.{List, [], _∷_, _++_}
 use Rattle.shared.specs.Shared.{shared}
 use Rattle.bytesync.specs.declared.BlockUnit.the-variants.{Byte}
 use Rattle.bytesync.specs.declared.Synced.{Synced}
@@ -18,7 +17,7 @@ use Rattle.chip.specs.Event.{Transmit}
 use Rattle.stories.specs.Story.{Which, A, B, number, chan, happens}
 use Rattle.stories.specs.Sent.{lineOf}
 use Rattle.sending.specs.Shown.{unlatched-shows, tick-shown, shows-read}
-use Rattle.terminals.specs.Sending.Side.{SenderSide, side, sideOf}
+use Rattle.terminals.specs.Sending.Side.{SenderSide, sideOf}
 use Rattle.terminals.specs.Sending.Events.{tickedOf, tick-side, tick-bit}
 use Rattle.terminals.specs.Sending.Statement.{RunsDry, LatchShown}
 
@@ -53,7 +52,8 @@ latch-shown w c r =
     ∙ ap (λ (x : Synced). x .shared .latch) t in
     record {
       line =
-          ap (λ (l : List Bool). l ++ []) (tick-bit w c (r .settings) ∙ ap (λ (x : Synced). x .bit ∷ []) t);
+          ap (λ (l : List Bool). l ++ [])
+          (tick-bit w c (r .settings) ∙ ap (λ (x : Synced). x .bit ∷ []) t);
       unit = ap (λ (x : SenderSide). x .sender .unit) e ∙ ap (λ (x : Synced). x .unit) t;
       set = set;
       shown = λ n p.

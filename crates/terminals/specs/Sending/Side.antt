@@ -1,5 +1,5 @@
--- The sender's side of a channel in Monosync and Bisync: its part of the sender, and what the two modes
--- heed of its settings. Assumes nothing.
+-- The sender's side of a channel in Monosync and Bisync: its part of the sender, and what the two
+-- modes heed of its settings. Assumes nothing.
 use mathlib.Core.Path.{_≡_}
 use mathlib.Core.Bool.{Bool, true, false}
 use Rattle.common.specs.Mode.{inBlocks}

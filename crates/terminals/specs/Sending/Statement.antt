@@ -1,5 +1,5 @@
--- The sender's half, over stories in which everything else may happen too, for either channel of any chip
--- and both polynomials. Proofs: Block, Shown, Chain. Assumes nothing.
+-- The sender's half, over stories in which everything else may happen too, for either channel of
+-- any chip and both polynomials. Proofs: Block, Shown, Chain. Assumes nothing.
 use mathlib.Core.Path.{_≡_}
 use mathlib.Core.Bool.{true, false}
 use mathlib.Core.List.{List, [], _∷_, _++_}
@@ -21,8 +21,8 @@ use Rattle.terminals.specs.Sending.Side.{Good, sideOf, syncingOf}
 abbrev pub syncsOf : Which → Chip → Syncs
 syncsOf w c = syncingOf w c .syncs
 
--- "From a sync with the sender on .., latch clear, check preset and included", buffer empty: p bits of the
--- sync are sent, and n, those of x, are left
+-- "From a sync with the sender on .., latch clear, check preset and included", buffer empty: p bits
+-- of the sync are sent, and n, those of x, are left
 pub record Start (w : Which) (c : Chip) (p : ℕ) : Type 0 where
   pub inside : p ≤ syncLength (syncsOf w c)
   pub n : ℕ
@@ -34,14 +34,17 @@ pub record Start (w : Which) (c : Chip) (p : ℕ) : Type 0 where
   pub cleared : latchOf w c ≡ false
   pub settings : Good (sideOf w c .heeds)
 
--- "n bytes written in time", and m straight behind the check: each into an empty buffer, those behind the
--- check once the latch is set, and no tick that chooses a unit comes too early; `left` and `more` are
--- unwritten when the story ends. Whatever leaves the sender's side as it is may happen at any moment
-pub data InTime (w : Which) (left more : List ℕ) : Chip → List ℕ → List ℕ → List Event → Type 0 where
+-- "n bytes written in time", and m straight behind the check: each into an empty buffer, those
+-- behind the check once the latch is set, and no tick that chooses a unit comes too early; `left`
+-- and `more` are unwritten when the story ends. Whatever leaves the sender's side as it is may
+-- happen at any moment
+pub data InTime (w : Which) (left more : List ℕ) : Chip → List ℕ → List ℕ → List Event
+    → Type 0 where
   over : {c : Chip} → InTime w left more c left more []
   still : {c : Chip} {rest tail : List ℕ} {e : Event} {st : List Event} → role w e ≡ Else
       → sideOf w (happens c e .chip) ≡ sideOf w c
-      → InTime w left more (happens c e .chip) rest tail st → InTime w left more c rest tail (e ∷ st)
+      → InTime w left more (happens c e .chip) rest tail st
+      → InTime w left more c rest tail (e ∷ st)
   writes : {c : Chip} {v : ℕ} {rest tail : List ℕ} {st : List Event} → fullOf w c ≡ false
       → InTime w left more (happens c (DataWrite (number w) v) .chip) rest tail st
       → InTime w left more c (v ∷ rest) tail (DataWrite (number w) v ∷ st)
@@ -101,8 +104,8 @@ LatchShown =
 abbrev pub anew : Which → List Event
 anew w = ControlWrite (number w) 0b10000000 ∷ ControlWrite (number w) 0b11000000 ∷ []
 
--- where a block has ended the next one starts, its check preset and the latch cleared, and its line is
--- what follows
+-- where a block has ended the next one starts, its check preset and the latch cleared, and its line
+-- is what follows
 abbrev pub NextBlock : Type 0
 NextBlock =
     (w : Which) (c : Chip) (p v : ℕ) (vs tail : List ℕ) (st : List Event) → Start w c p
