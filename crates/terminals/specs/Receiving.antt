@@ -7,3 +7,6 @@ pub mod Shown
 pub mod Demand
 pub mod Register
 pub mod Hunt
+pub mod Quiet
+pub mod Room
+pub mod Example
