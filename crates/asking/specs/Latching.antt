@@ -25,36 +25,36 @@ asking = set 0 1 0b1
 
 -- a break has come, and status is shown afresh
 abbrev broken : List Event
-broken = hearing 0 oneStop ++ (asking ++ (blank 0 ++ afresh))
+broken = hearing 0 oneStop ++ asking ++ blank 0 ++ afresh
 
 -- between flags, nothing latched
 abbrev opened : List Event
-opened = hearing 0 sdlc ++ (flag 0 ++ (afresh ++ (afresh ++ asking)))
+opened = hearing 0 sdlc ++ flag 0 ++ afresh ++ afresh ++ asking
 
 pub record Told : Type 0 where
   -- any change latches
   pub dcd-rises : reads happens (asking ++ lines 1 0) 0 0 ≡ 0x4E
   pub cts-rises : reads happens (asking ++ lines 0 1) 0 0 ≡ 0x66
-  pub dcd-falls : reads happens (asking ++ (lines 1 0 ++ (afresh ++ lines 0 0))) 0 0 ≡ 0x46
+  pub dcd-falls : reads happens (asking ++ lines 1 0 ++ afresh ++ lines 0 0) 0 0 ≡ 0x46
   pub break-ends : reads happens (broken ++ (Receive 0 1 ∷ [])) 0 0 ≡ 0x47
-  pub hunt-ends : reads happens (hearing 0 sdlc ++ (afresh ++ (asking ++ flag 0))) 0 0 ≡ 0x46
+  pub hunt-ends : reads happens (hearing 0 sdlc ++ afresh ++ asking ++ flag 0) 0 0 ≡ 0x46
   pub d6-rises :
-      reads happens (framing 0 ++ (afresh ++ (asking ++ command 0 sendAbort))) 0 0 ≡ 0x56
+      reads happens (framing 0 ++ afresh ++ asking ++ command 0 sendAbort) 0 0 ≡ 0x56
   -- "except D6 falling, which shows at once if nothing is latched"
   pub d6-falls : reads happens (asking ++ command 0 clearUnderrun) 0 0 ≡ 0x04
   pub d6-held : reads happens (lines 1 0 ++ command 0 clearUnderrun) 0 0 ≡ 0x4C
   -- "latched together": all five stay as they were shown
   pub held-together : reads happens (lines 1 0 ++ lines 0 1) 0 0 ≡ 0x4C
   -- "shows them afresh"
-  pub shown-afresh : reads happens (lines 1 0 ++ (lines 0 1 ++ afresh)) 0 0 ≡ 0x64
-  pub unlatched : reads happens (asking ++ (lines 1 0 ++ afresh)) 0 0 ≡ 0x4C
+  pub shown-afresh : reads happens (lines 1 0 ++ lines 0 1 ++ afresh) 0 0 ≡ 0x64
+  pub unlatched : reads happens (asking ++ lines 1 0 ++ afresh) 0 0 ≡ 0x4C
   -- "and latches again if one changed by that rule"
-  pub latched-again : reads happens (asking ++ (lines 1 0 ++ (lines 0 1 ++ afresh))) 0 0 ≡ 0x66
+  pub latched-again : reads happens (asking ++ lines 1 0 ++ lines 0 1 ++ afresh) 0 0 ≡ 0x66
   pub not-by-d6 :
-      reads happens (asking ++ (lines 1 0 ++ (command 0 clearUnderrun ++ afresh))) 0 0 ≡ 0x0C
-  pub nothing-latched : reads happens (lines 1 0 ++ (afresh ++ (afresh ++ asking))) 0 0 ≡ 0x4C
+      reads happens (asking ++ lines 1 0 ++ command 0 clearUnderrun ++ afresh) 0 0 ≡ 0x0C
+  pub nothing-latched : reads happens (lines 1 0 ++ afresh ++ afresh ++ asking) 0 0 ≡ 0x4C
   -- an abort's D7 stays "until the next 0"
-  pub abort-stays : reads happens (opened ++ (ones 0 7 ++ afresh)) 0 0 ≡ 0xC4
+  pub abort-stays : reads happens (opened ++ ones 0 7 ++ afresh) 0 0 ≡ 0xC4
 
 pub told : Told
 unfolding computing after times digits

@@ -12,14 +12,14 @@ use Rattle.asking.specs.Happens.{happens}
 
 -- A hears in this receive mode, two characters come and one is read
 abbrev oneRead : ℕ → List Event
-oneRead mode = hearing 0 oneStop ++ (set 0 1 mode ++ (char41 0 ++ (char41 0 ++ takes 0 1)))
+oneRead mode = hearing 0 oneStop ++ set 0 1 mode ++ char41 0 ++ char41 0 ++ takes 0 1
 
 abbrev three : List Event
-three = char41 0 ++ (char41 0 ++ char41 0)
+three = char41 0 ++ char41 0 ++ char41 0
 
 -- A sends a character with this WR1; its start bit is out
 abbrev loaded : ℕ → List Event
-loaded wr1 = sending 0 oneStop ++ (set 0 1 wr1 ++ (writes 0 0x41 ++ ticks 0 1))
+loaded wr1 = sending 0 oneStop ++ set 0 1 wr1 ++ writes 0 0x41 ++ ticks 0 1
 
 -- DCD goes on with this WR1
 abbrev carrier : ℕ → List Event
@@ -34,16 +34,16 @@ pub record Told : Type 0 where
   -- "4 arm first-character interrupt"; one that waits counts
   pub armed-again : reads happens (oneRead 0b01000 ++ command 0 arm) 0 0 ≡ 0x47
   -- "or, modes 1 to 3, if the oldest entry is special: .. framing": armed or not
-  pub special-disarmed : reads happens (oneRead 0b01000 ++ (takes 0 1 ++ cut41 0)) 0 0 ≡ 0x47
+  pub special-disarmed : reads happens (oneRead 0b01000 ++ takes 0 1 ++ cut41 0) 0 0 ≡ 0x47
   -- "special: overrun"
-  pub overrun-special : reads happens (oneRead 0b01000 ++ (three ++ takes 0 2)) 0 0 ≡ 0x47
+  pub overrun-special : reads happens (oneRead 0b01000 ++ three ++ takes 0 2) 0 0 ≡ 0x47
   -- "Transmit: set by a load while WR1 D1 is set"
   pub load-sets : reads happens (loaded 0b10) 0 0 ≡ 0x46
   pub no-load-without-d1 : reads happens (loaded 0 ++ set 0 1 0b10) 0 0 ≡ 0x44
   -- "ended by data write, command 5 or D1 off"
   pub data-write-ends : reads happens (loaded 0b10 ++ writes 0 0x41) 0 0 ≡ 0x40
   pub command-5-ends : reads happens (loaded 0b10 ++ command 0 resetTransmit) 0 0 ≡ 0x44
-  pub d1-off-ends : reads happens (loaded 0b10 ++ (set 0 1 0 ++ set 0 1 0b10)) 0 0 ≡ 0x44
+  pub d1-off-ends : reads happens (loaded 0b10 ++ set 0 1 0 ++ set 0 1 0b10) 0 0 ≡ 0x44
   -- "External: latched and WR1 D0."
   pub external : reads happens (carrier 1) 0 0 ≡ 0x4E
   pub no-external-without-d0 : reads happens (carrier 0) 0 0 ≡ 0x4C

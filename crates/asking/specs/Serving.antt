@@ -21,11 +21,11 @@ abbrev bTaken : List Event
 bTaken = inB ++ (Acknowledge ∷ [])
 
 abbrev bothTaken : List Event
-bothTaken = bTaken ++ (inA ++ (Acknowledge ∷ []))
+bothTaken = bTaken ++ inA ++ (Acknowledge ∷ [])
 
 -- A's transmit is taken
 abbrev sentTaken : List Event
-sentTaken = sending 0 oneStop ++ (set 0 1 0b10 ++ (writes 0 0 ++ (ticks 0 1 ++ (Acknowledge ∷ []))))
+sentTaken = sending 0 oneStop ++ set 0 1 0b10 ++ writes 0 0 ++ ticks 0 1 ++ (Acknowledge ∷ [])
 
 pub record Told : Type 0 where
   -- "Acknowledge puts the highest source in service and leaves it pending"

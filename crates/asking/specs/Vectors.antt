@@ -15,18 +15,18 @@ vectors = set 1 2 0xF1 ++ set 1 1 0b100
 
 -- a character waits in a channel, its receive interrupt on for all
 abbrev received : ℕ → ℕ → List Event
-received ch wr1 = hearing ch oneStop ++ (set ch 1 wr1 ++ char41 ch)
+received ch wr1 = hearing ch oneStop ++ set ch 1 wr1 ++ char41 ch
 
 -- a start bit has been sent, in A; in a channel, its transmit interrupt on
 abbrev begun : List Event
 begun = writes 0 0 ++ ticks 0 1
 
 abbrev sent : ℕ → ℕ → List Event
-sent ch wr1 = sending ch oneStop ++ (set ch 1 wr1 ++ (writes ch 0 ++ ticks ch 1))
+sent ch wr1 = sending ch oneStop ++ set ch 1 wr1 ++ writes ch 0 ++ ticks ch 1
 
 -- A has heard a frame of three characters, its receive interrupt on for all
 abbrev heardFrame : List Event
-heardFrame = hearing 0 sdlc ++ (set 0 1 0b11000 ++ frame00 0)
+heardFrame = hearing 0 sdlc ++ set 0 1 0b11000 ++ frame00 0
 
 -- DCD has gone on
 abbrev carrier : ℕ → ℕ → List Event
@@ -51,14 +51,14 @@ pub record Told : Type 0 where
   pub no-rr2-in-a : reads happens vectors 0 2 ≡ 0
   -- "Priority: A receive, transmit, external, then B."
   pub receive-first :
-      vector happens (vectors ++ (received 0 0b11010 ++ (set 0 5 sendEight ++ begun))) ≡ 0xFD
-  pub transmit-next : vector happens (vectors ++ (sent 0 0b11 ++ (SetLines 0 1 0 ∷ []))) ≡ 0xF9
-  pub a-before-b : vector happens (vectors ++ (carrier 0 0b1 ++ received 1 0b11100)) ≡ 0xFB
+      vector happens (vectors ++ received 0 0b11010 ++ set 0 5 sendEight ++ begun) ≡ 0xFD
+  pub transmit-next : vector happens (vectors ++ sent 0 0b11 ++ (SetLines 0 1 0 ∷ [])) ≡ 0xF9
+  pub a-before-b : vector happens (vectors ++ carrier 0 0b1 ++ received 1 0b11100) ≡ 0xFB
   -- "RR2 that of the highest pending": in service or not
-  pub served-shows : reads happens (vectors ++ (carrier 0 0b1 ++ (Acknowledge ∷ []))) 1 2 ≡ 0xFB
+  pub served-shows : reads happens (vectors ++ carrier 0 0b1 ++ (Acknowledge ∷ [])) 1 2 ≡ 0xFB
   -- "special: .. frame end", good or bad
   pub frame-end :
-      reads happens (vectors ++ (heardFrame ++ takes 0 2)) 1 2 ≡ 0xFF
+      reads happens (vectors ++ heardFrame ++ takes 0 2) 1 2 ≡ 0xFF
   -- RR0 "D1 any source pending (A; 0 in B)", in service or not
   pub d1-of-b-in-a : reads happens (carrier 1 0b1) 0 0 ≡ 0x46
   pub no-d1-in-b : reads happens (carrier 1 0b1) 1 0 ≡ 0x4C

@@ -1,8 +1,9 @@
 -- What an event is, told by numbers and tests, for the making of wrong chips. Assumes nothing.
-use mathlib.Core.Bool.{Bool, _&&_}
+use mathlib.Core.Bool.{Bool, not, _&&_}
 use Prim.Native.Nat.{ℕ}
 use lib.Dec.{eqb}
-use Rattle.settings.specs.Settings.{commandIn, presetIn}
+use Rattle.common.specs.Mode.{sameMode}
+use Rattle.settings.specs.Settings.{commandIn, presetIn, modeIn}
 use Rattle.channel.specs.declared.Channel.{Channel}
 use Rattle.chip.specs.Event.{Event, HardReset, ControlWrite, ControlRead, DataWrite, DataRead}
 use Rattle.chip.specs.Event.{Transmit, Receive, SetLines, Acknowledge, Reti}
@@ -80,11 +81,12 @@ isBit ch e = isOn 6 ch e
 abbrev pub isLines : ℕ → Event → Bool
 isLines ch e = isOn 7 ch e
 
--- WR0 of a channel as it was: this command, this code of D7-6
+-- WR0 of a channel as it was, with this command
 abbrev pub isCommand : ℕ → ℕ → Channel → Event → Bool
 isCommand ch k was e =
     isControl ch e && (eqb (was .pointer) 0 && eqb (commandIn (valueOf e)) k)
 
+-- the same with this code of D7-6
 abbrev pub isPreset : ℕ → ℕ → Channel → Event → Bool
 isPreset ch k was e =
     isControl ch e && (eqb (was .pointer) 0 && eqb (presetIn (valueOf e)) k)
@@ -92,3 +94,9 @@ isPreset ch k was e =
 -- this register of a channel as it was
 abbrev pub isWrite : ℕ → ℕ → Channel → Event → Bool
 isWrite ch wr was e = isControl ch e && eqb (was .pointer) wr
+
+-- a WR4 that changed the mode of a channel
+abbrev pub isChange : ℕ → Channel → Event → Channel → Bool
+isChange ch was e is =
+    isWrite ch 4 was e
+    && not (sameMode (modeIn (was .registers)) (modeIn (is .registers)))

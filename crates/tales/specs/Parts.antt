@@ -96,6 +96,21 @@ withReception c r =
     let v = c .receiver in
     withReceiver c (receiver (v .content) (v .assembly) r (v .check) (v .broken))
 
+-- the parity that a character under way is judged by
+abbrev pub withParity : Channel → Bool → Bool → Channel
+withParity c p e =
+    let a = c .receiver .assembly in
+    withAssembly c (record {
+      wait = a .wait;
+      left = a .left;
+      bits = a .bits;
+      weight = a .weight;
+      odd = a .odd;
+      blank = a .blank;
+      parity = p;
+      even = e;
+    })
+
 abbrev pub withHeardCheck : Channel → ℕ → Channel
 withHeardCheck c k =
     let v = c .receiver in
@@ -121,6 +136,16 @@ abbrev pub withOnes : Channel → ℕ → Channel
 withOnes c o =
     let t = c .receiver .content in
     withContent c (content (t .hunt) (t .skip) o (t .delay) (t .chars))
+
+abbrev pub withDelay : Channel → ℕ → Channel
+withDelay c d =
+    let t = c .receiver .content in
+    withContent c (content (t .hunt) (t .skip) (t .ones) d (t .chars))
+
+abbrev pub withChars : Channel → Chars → Channel
+withChars c k =
+    let t = c .receiver .content in
+    withContent c (content (t .hunt) (t .skip) (t .ones) (t .delay) k)
 
 -- The queue and the status
 

@@ -82,7 +82,7 @@ abbrev pub sendEight : ℕ
 sendEight = 0b01101000
 
 abbrev pub sendChecked : ℕ
-sendChecked = 0b00001001
+sendChecked = 0b01101001
 
 -- a channel in this mode, its receiver or its sender on
 abbrev pub hearing : ℕ → ℕ → List Event
@@ -93,7 +93,7 @@ sending ch wr4 = set ch 4 wr4 ++ set ch 5 sendEight
 
 -- SDLC, the latch cleared
 abbrev pub framing : ℕ → List Event
-framing ch = set ch 4 sdlc ++ (set ch 5 sendChecked ++ command ch clearUnderrun)
+framing ch = set ch 4 sdlc ++ set ch 5 sendChecked ++ command ch clearUnderrun
 
 -- on the line: 41 hex in eight bits with its start and stop, the same with a stop of 0, and a break
 abbrev pub char41 : ℕ → List Event

@@ -1,13 +1,17 @@
 -- How a wrong chip is made: it does what the chip does, and one thing otherwise. Assumes nothing.
-use Prim.Native.Nat.{ℕ}
+use mathlib.Core.Bool.{_||_}
+use Rattle.common.specs.Choice.{if_then_else_}
+use Rattle.settings.specs.declared.Registers.{Registers}
 use Rattle.channel.specs.declared.Answer.{Answer}
 use Rattle.channel.specs.declared.Channel.{Channel}
+use Rattle.channel.specs.Channel.{withRegisters}
 use Rattle.chip.specs.declared.Chip.{Chip}
 use Rattle.chip.specs.declared.Outcome.{Outcome}
 use Rattle.chip.specs.Interrupts.{chip}
 use Rattle.chip.specs.Chip.{outcome}
 use Rattle.chip.specs.Event.{Event, step}
 use Rattle.tales.specs.Tale.{Happens}
+use Rattle.tales.specs.Kind.{isTick, isBit}
 
 -- behind each event A is changed: by what it was, the event, and what it is
 abbrev pub butA : (Channel → Event → Channel → Channel) → Happens
@@ -23,6 +27,14 @@ but f c e = let o = step c e in outcome (o .answer) (f c e (o .chip))
 -- before each event A is changed
 abbrev pub firstA : (Channel → Event → Channel) → Happens
 firstA f c e = step (chip (f (c .a) e) (c .b)) e
+
+-- while a line bit goes or comes, A's registers are taken for others
+abbrev pub takingA : (Registers → Registers) → Happens
+takingA f c e =
+    let o = step (chip (withRegisters (c .a) (f (c .a .registers))) (c .b)) e in
+    if isTick 0 e || isBit 0 e
+    then outcome (o .answer) (chip (withRegisters (o .chip .a) (c .a .registers)) (o .chip .b))
+    else step c e
 
 -- the answer is another one
 abbrev pub saying : (Chip → Event → Answer → Answer) → Happens

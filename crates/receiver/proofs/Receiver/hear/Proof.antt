@@ -1,118 +1,85 @@
+-- `receiver::Receiver::hear` meets its contract: each return by the facts on its way. Assumes nothing.
 use Rattle.receiver.proofs.Branch.{tests}
 use Rattle.receiver.specs.Receiver.{hear}
 use borrow.Author.Needs.{needs}
 use Rattle.receiver.proofs.Receiver.hear.Statement.{statement}
 use Rattle.receiver.proofs.Receiver.hear.Tie as tie
-use Rattle.receiver.proofs.Receiver.hear.Reads as reads
-use Rattle.receiver.proofs.Receiver.hear.Lts as lts
-use Rattle.asynchronous.proofs.Assembly.hear.Reads as Assembly-hear-reads
-use Rattle.listening.proofs.hear.Reads as hear-reads
-use Rattle.receiver.proofs.Receiver.by_assembly.Reads as by-assembly-reads
-use Rattle.receiver.proofs.Receiver.by_listener.Reads as by-listener-reads
-use Rattle.receiver.proofs.Receiver.dropped.Reads as dropped-reads
-use Rattle.receiver.proofs.Receiver.hear_block.Reads as hear-block-reads
-use Rattle.receiver.proofs.Receiver.listener.Reads as listener-reads
-use Rattle.receiver.proofs.Receiver.silent.Reads as silent-reads
 
--- src/lib.rt:199:29
 enum-told : tie.Need-enum-told
 enum-told c = search needs
 
--- src/lib.rt:199:29
 silent-requires : tie.Need-silent-requires
 silent-requires c κs = search needs
 
--- src/lib.rt:201:20
 enum-told-2 : tie.Need-enum-told-2
 enum-told-2 c = search needs
 
--- src/lib.rt:202:45
 hear-requires : tie.Need-hear-requires
 hear-requires c κs = search needs
 
--- src/lib.rt:202:21
 by-assembly-requires : tie.Need-by-assembly-requires
 by-assembly-requires c κs = search needs
 
--- src/lib.rt:202:21
 returns : tie.Need-returns
 unfolding hear
 returns c = simp (tests, c .before .before .if1 .taken, c .before .before .before .enum-told2 .given .1, ← c .before .hear .ensures) (c .by-assembly .ensures)
 
--- src/lib.rt:204:17
 dropped-requires : tie.Need-dropped-requires
 dropped-requires c κs = search needs
 
--- src/lib.rt:204:17
 silent-requires-2 : tie.Need-silent-requires-2
 silent-requires-2 c κs = search needs
 
--- src/lib.rt:206:31
 enum-told-3 : tie.Need-enum-told-3
 enum-told-3 c = search needs
 
--- src/lib.rt:206:31
 hear-block-requires : tie.Need-hear-block-requires
 hear-block-requires c κs = search needs
 
--- src/lib.rt:207:29
 enum-told-4 : tie.Need-enum-told-4
 enum-told-4 c = search needs
 
--- src/lib.rt:207:29
 hear-block-requires-2 : tie.Need-hear-block-requires-2
 hear-block-requires-2 c κs = search needs
 
--- src/lib.rt:209:20
 enum-told-5 : tie.Need-enum-told-5
 enum-told-5 c = search needs
 
--- src/lib.rt:210:61
 listener-requires : tie.Need-listener-requires
 listener-requires c κs = search needs
 
--- src/lib.rt:210:45
 hear-requires-2 : tie.Need-hear-requires-2
 hear-requires-2 c κs = search needs
 
--- src/lib.rt:210:21
 by-listener-requires : tie.Need-by-listener-requires
 by-listener-requires c κs = search needs
 
--- src/lib.rt:210:21
 returns-2 : tie.Need-returns-2
 unfolding hear
 returns-2 c = simp (tests, c .before .before .before .if2 .taken, c .before .before .before .before .enum-told5 .given .1, ← c .before .hear2 .ensures, ← c .before .before .listener .ensures) (c .by-listener .ensures)
 
--- src/lib.rt:212:17
 dropped-requires-2 : tie.Need-dropped-requires-2
 dropped-requires-2 c κs = search needs
 
--- src/lib.rt:212:17
 silent-requires-3 : tie.Need-silent-requires-3
 silent-requires-3 c κs = search needs
 
--- src/lib.rt:194:5
 returns-3 : tie.Need-returns-3
 unfolding hear
 returns-3 c = simp (tests, c .before .enum-told .given .1) (c .silent .ensures)
 
--- src/lib.rt:194:5
 returns-4 : tie.Need-returns-4
 unfolding hear
 returns-4 c = simp (tests, c .before .before .if1 .left, c .before .before .before .enum-told2 .given .1, ← c .before .dropped .ensures) (c .silent2 .ensures)
 
--- src/lib.rt:194:5
 returns-5 : tie.Need-returns-5
 unfolding hear
 returns-5 c = simp (tests, c .before .enum-told3 .given .1) (c .hear-block .ensures)
 
--- src/lib.rt:194:5
 returns-6 : tie.Need-returns-6
 unfolding hear
 returns-6 c = simp (tests, c .before .enum-told4 .given .1) (c .hear-block2 .ensures)
 
--- src/lib.rt:194:5
 returns-7 : tie.Need-returns-7
 unfolding hear
 returns-7 c = simp (tests, c .before .before .if2 .left, c .before .before .before .enum-told5 .given .1, ← c .before .dropped2 .ensures) (c .silent3 .ensures)

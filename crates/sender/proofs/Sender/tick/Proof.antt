@@ -1,95 +1,68 @@
+-- `sender::Sender::tick` meets its contract: each return by the facts on its way. Assumes nothing.
 use Rattle.sender.proofs.Branch.{tests}
 use Rattle.sender.specs.Sender.{tick}
 use borrow.Author.Needs.{needs}
 use Rattle.sender.proofs.Sender.tick.Statement.{statement}
 use Rattle.sender.proofs.Sender.tick.Tie as tie
-use Rattle.sender.proofs.Sender.tick.Reads as reads
-use Rattle.sender.proofs.Sender.tick.Lts as lts
-use Rattle.asynchronous.proofs.Typing.tick.Reads as Typing-tick-reads
-use Rattle.framing.proofs.tick.Reads as tick-reads
-use Rattle.sender.proofs.Sender.by_framer.Reads as by-framer-reads
-use Rattle.sender.proofs.Sender.by_typist.Reads as by-typist-reads
-use Rattle.sender.proofs.Sender.framer.Reads as framer-reads
-use Rattle.sender.proofs.Sender.tick_block.Reads as tick-block-reads
-use Rattle.sender.proofs.Ticked.with_break.Reads as with-break-reads
 
--- src/lib.rt:177:29
 enum-told : tie.Need-enum-told
 enum-told c = search needs
 
--- src/lib.rt:182:50
 enum-told-2 : tie.Need-enum-told-2
 enum-told-2 c = search needs
 
--- src/lib.rt:182:50
 tick-requires : tie.Need-tick-requires
 tick-requires c κs = search needs
 
--- src/lib.rt:182:35
 by-typist-requires : tie.Need-by-typist-requires
 by-typist-requires c κs = search needs
 
--- src/lib.rt:182:35
 with-break-requires : tie.Need-with-break-requires
 with-break-requires c κs = search needs
 
--- src/lib.rt:184:31
 enum-told-3 : tie.Need-enum-told-3
 enum-told-3 c = search needs
 
--- src/lib.rt:184:31
 tick-block-requires : tie.Need-tick-block-requires
 tick-block-requires c κs = search needs
 
--- src/lib.rt:185:29
 enum-told-4 : tie.Need-enum-told-4
 enum-told-4 c = search needs
 
--- src/lib.rt:185:29
 tick-block-requires-2 : tie.Need-tick-block-requires-2
 tick-block-requires-2 c κs = search needs
 
--- src/lib.rt:186:56
 enum-told-5 : tie.Need-enum-told-5
 enum-told-5 c = search needs
 
--- src/lib.rt:186:56
 framer-requires : tie.Need-framer-requires
 framer-requires c κs = search needs
 
--- src/lib.rt:186:42
 tick-requires-2 : tie.Need-tick-requires-2
 tick-requires-2 c κs = search needs
 
--- src/lib.rt:186:27
 by-framer-requires : tie.Need-by-framer-requires
 by-framer-requires c κs = search needs
 
--- src/lib.rt:186:27
 with-break-requires-2 : tie.Need-with-break-requires-2
 with-break-requires-2 c κs = search needs
 
--- src/lib.rt:172:5
 returns : tie.Need-returns
 unfolding tick
 returns c = simp (tests, c .enum-told .given .1)
 
--- src/lib.rt:172:5
 returns-2 : tie.Need-returns-2
 unfolding tick
 returns-2 c = simp (tests, c .before .before .before .enum-told2 .given .1, ← c .before .by-typist .ensures, ← c .before .before .tick .ensures) (c .with-break .ensures)
 
--- src/lib.rt:172:5
 returns-3 : tie.Need-returns-3
 unfolding tick
 returns-3 c = simp (tests, c .before .enum-told3 .given .1) (c .tick-block .ensures)
 
--- src/lib.rt:172:5
 returns-4 : tie.Need-returns-4
 unfolding tick
 returns-4 c = simp (tests, c .before .enum-told4 .given .1) (c .tick-block2 .ensures)
 
--- src/lib.rt:172:5
 returns-5 : tie.Need-returns-5
 unfolding tick
 returns-5 c = simp (tests, c .before .before .before .before .enum-told5 .given .1, ← c .before .by-framer .ensures, ← c .before .before .tick2 .ensures, ← c .before .before .before .framer .ensures) (c .with-break2 .ensures)

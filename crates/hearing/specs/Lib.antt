@@ -1,0 +1,4 @@
+pub mod Happens
+pub mod Characters
+pub mod Entries
+pub mod Frames

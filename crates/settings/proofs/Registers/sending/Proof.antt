@@ -1,0 +1,40 @@
+-- `settings::Registers::sending` meets its contract: each return by the facts on its way. Assumes nothing.
+use Rattle.settings.proofs.Branch.{tests}
+use Rattle.settings.specs.Settings.{sendingOf}
+use borrow.Author.Needs.{needs}
+use Rattle.settings.proofs.Registers.sending.Statement.{statement}
+use Rattle.settings.proofs.Registers.sending.Tie as tie
+
+sends-requires : tie.Need-sends-requires
+sends-requires c κs = search needs
+
+mode-requires : tie.Need-mode-requires
+mode-requires c κs = search needs
+
+format-requires : tie.Need-format-requires
+format-requires c κs = search needs
+
+stops-of-requires : tie.Need-stops-of-requires
+stops-of-requires c κs = search needs
+
+polynomial-requires : tie.Need-polynomial-requires
+polynomial-requires c κs = search needs
+
+syncs-requires : tie.Need-syncs-requires
+syncs-requires c κs = search needs
+
+returns : tie.Need-returns
+unfolding sendingOf
+returns c = simp (tests, c .syncs .ensures, ← c .before .polynomial .ensures, ← c .before .before .before .stops-of .ensures, ← c .before .before .before .before .format .ensures, ← c .before .before .before .before .before .before .before .before .mode .ensures, ← c .before .before .before .before .before .before .before .before .before .sends .ensures)
+
+pub sending-spec : {M : Type 1} → statement M
+sending-spec =
+    tie.close
+    (tie.spec
+    sends-requires
+    mode-requires
+    format-requires
+    stops-of-requires
+    polynomial-requires
+    syncs-requires
+    returns)

@@ -1,0 +1,3 @@
+pub mod Happens
+pub mod Characters
+pub mod Frames
