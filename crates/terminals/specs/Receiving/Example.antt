@@ -1,6 +1,6 @@
--- A terminal's block, computed to meet what the demand asks, and the theorem said of it: Monosync, WR7 =
--- 16, CRC-16, leading syncs kept out, other events behind every bit, and WR3 D3 written where it must be.
--- Then the same with a bit flipped. Assumes nothing.
+-- A terminal's block, computed to meet what the demand asks, and the theorem said of it: Monosync,
+-- WR7 = 16, CRC-16, leading syncs kept out, other events behind every bit, and WR3 D3 written where
+-- it must be. Then the same with a bit flipped. Assumes nothing.
 use mathlib.Core.Path.{_≡_, refl}
 use mathlib.Core.Bool.{Bool, true, false}
 use mathlib.Core.List.{List, [], _∷_, _++_}
@@ -21,7 +21,8 @@ use Rattle.stories.specs.Received.{bitsOf}
 use Rattle.stories.specs.Receiving.{story}
 use Rattle.stories.specs.Calls.{set}
 use Rattle.terminals.specs.Receiving.Side.{sideOf, momentsOf}
-use Rattle.terminals.specs.Receiving.Statement.{Listening, matchingOf, BlockFed, Received, rr1D6}
+use Rattle.terminals.specs.Receiving.Statement.{Listening, matchingOf, BlockFed, Received}
+use Rattle.terminals.specs.Receiving.Statement.{rr1D6}
 use Rattle.terminals.specs.Receiving.Room.{inRoom, fed}
 use Rattle.terminals.specs.Receiving.Demand.{block-received, flip-seen}
 
@@ -31,11 +32,12 @@ begin =
     after hardReset (set 0 4 0 ++ (set 0 7 0x16 ++ (set 0 5 0b100 ++ (set 0 3 0b11
     ++ (ControlWrite 0 0b1000000 ∷ [])))))
 
--- behind every bit: reads, status reads, the sender, lines, interrupts, the other channel, refused calls
+-- behind every bit: reads, status reads, the sender, lines, interrupts, the other channel, refused
+-- calls
 abbrev pub noise : List Event
 noise =
-    DataRead 0 ∷ ControlWrite 0 0b10001 ∷ ControlRead 0 ∷ DataWrite 0 3 ∷ Transmit 0 ∷ SetLines 0 1 1
-    ∷ Receive 1 1 ∷ Acknowledge ∷ Reti ∷ Receive 0 2 ∷ []
+    DataRead 0 ∷ ControlWrite 0 0b10001 ∷ ControlRead 0 ∷ DataWrite 0 3 ∷ Transmit 0
+    ∷ SetLines 0 1 1 ∷ Receive 1 1 ∷ Acknowledge ∷ Reti ∷ Receive 0 2 ∷ []
 
 abbrev pub checkingOn : List Event
 checkingOn = set 0 3 0b1011
@@ -47,7 +49,8 @@ opening = 0x16 ∷ 0x16 ∷ 0x41 ∷ []
 abbrev pub blockStory : ℕ → List Event
 blockStory v =
     story A noise (textBits 8 opening)
-    ++ (checkingOn ++ (story A noise (textBits 8 (v ∷ 0xB0 ∷ 0x61 ∷ 0x16 ∷ [])) ++ (ControlWrite 0 1 ∷ [])))
+    ++ (checkingOn ++ (story A noise (textBits 8 (v ∷ 0xB0 ∷ 0x61 ∷ 0x16 ∷ []))
+    ++ (ControlWrite 0 1 ∷ [])))
 
 abbrev pub sent : List Event
 sent = blockStory 0x42
@@ -60,7 +63,8 @@ all-bytes : (v : ℕ) → v < 256
     → Below 256 (0x16 ∷ 0x41 ∷ v ∷ 0xB0 ∷ 0x61 ∷ 0x16 ∷ [])
 all-bytes v h =
     more {v = 0x16} (omega arith) (more {v = 0x41} (omega arith) (more h
-    (more {v = 0xB0} (omega arith) (more {v = 0x61} (omega arith) (more {v = 0x16} (omega arith) none)))))
+    (more {v = 0xB0} (omega arith)
+    (more {v = 0x61} (omega arith) (more {v = 0x16} (omega arith) none)))))
 
 pub record Examples : Type 0 where
   pub listens : Listening (sideOf A begin)
@@ -122,4 +126,5 @@ pub flipped-seen : rr1D6 A (after begin flipped) ≡ true
 unfolding computing checkBytes story after
 flipped-seen =
     flip-seen A begin flipped 1 0x41 0x16 (0x41 ∷ 0x42 ∷ []) (0x43 ∷ 0xB0 ∷ 0x61 ∷ [])
-    (textBits 8 (0x41 ∷ [])) behindFlip false (examples .listens) refl refl (examples .fed-flipped) refl
+    (textBits 8 (0x41 ∷ [])) behindFlip false (examples .listens) refl refl
+    (examples .fed-flipped) refl

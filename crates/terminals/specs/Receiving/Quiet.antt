@@ -1,5 +1,5 @@
--- Which events leave the receiving side of a channel as it was: a test that a reader can run, and the
--- proof that it is enough. WR3 D3 may be written as the host likes. Assumes nothing.
+-- Which events leave the receiving side of a channel as it was: a test that a reader can run, and
+-- the proof that it is enough. WR3 D3 may be written as the host likes. Assumes nothing.
 use mathlib.Core.Path.{_≡_, refl, sym, ap, _∙_, subst}
 use mathlib.Core.Bool.{Bool, true, false, not, _&&_, _||_}
 use Prim.Native.Nat.{ℕ, _/_}
@@ -17,13 +17,15 @@ use Rattle.interrupts.specs.Interrupts.{acknowledged, ended}
 use Rattle.receiver.specs.Receiver.{enterHunt}
 use Rattle.settings.specs.declared.Registers.{Registers}
 use Rattle.settings.specs.Settings.{store3, store5, store6, store7, commandIn, presetIn, entersHunt}
-use Rattle.settings.specs.Settings.{autoEnables, modeIn, notBuilt, syncsIn, polynomialIn, receivingOf}
+use Rattle.settings.specs.Settings.{autoEnables, modeIn, notBuilt, syncsIn, polynomialIn}
+use Rattle.settings.specs.Settings.{receivingOf}
 use Rattle.channel.specs.declared.Side as channel
 use Rattle.channel.specs.declared.Side.the-variants as channels
 use Rattle.channel.specs.declared.Channel.{Channel}
 use Rattle.channel.specs.declared.Answered.{Answered}
 use Rattle.channel.specs.Channel.{withRegisters, withReceiver, settled}
-use Rattle.channel.specs.Control.{commanded, preset, commandStep, presetStep, writeWr0, setWr1, setWr2}
+use Rattle.channel.specs.Control.{commanded, preset, commandStep, presetStep, writeWr0, setWr1}
+use Rattle.channel.specs.Control.{setWr2}
 use Rattle.channel.specs.Control.{setWr3, setWr4, setRegister, controlWritten}
 use Rattle.channel.specs.Events.{transmitTick, linesSet}
 use Rattle.chip.specs.declared.Chip.{Chip}
@@ -49,8 +51,8 @@ abbrev pub quietWr0 : ℕ → Bool
 quietWr0 v =
     not (eqb (commandIn v) 3) && (not (eqb (commandIn v) 6) && not (eqb (presetIn v) 1))
 
--- WR3: on, WR3 D1 and auto enables stay, and hunt is not entered. WR5: the polynomial stays. WR1, WR2:
--- any. WR4, WR6, WR7: none
+-- WR3: on, WR3 D1 and auto enables stay, and hunt is not entered. WR5: the polynomial stays. WR1,
+-- WR2: any. WR4, WR6, WR7: none
 abbrev pub quietWr3 : Registers → ℕ → Bool
 quietWr3 r v =
     not (entersHunt v)
@@ -306,14 +308,17 @@ receive-kept : (w : Which) (c : Chip) (ch bit : ℕ) → not (here w ch) || leb 
     → KeptBy w c (receiveCall c ch bit)
 unfolding receiveCall
 receive-kept A c ch bit q =
-    call-kept A c ch _ _ (λ t. by-test (λ (x : Answered). KeptBy A c (inA c x)) (leb 2 bit) (λ u. refl)
+    call-kept A c ch _ _ (λ t. by-test (λ (x : Answered). KeptBy A c (inA c x)) (leb 2 bit)
+    (λ u. refl)
     (λ u. void (sym u ∙ or-right (here A ch) (leb 2 bit) q t))) refl
 receive-kept B c ch bit q =
-    call-kept B c ch _ _ (λ t. by-test (λ (x : Answered). KeptBy B c (inB c x)) (leb 2 bit) (λ u. refl)
+    call-kept B c ch _ _ (λ t. by-test (λ (x : Answered). KeptBy B c (inB c x)) (leb 2 bit)
+    (λ u. refl)
     (λ u. void (sym u ∙ or-right (here B ch) (leb 2 bit) q t))) refl
 
 set-lines-kept : (w : Which) (c : Chip) (ch dcd cts : ℕ)
-    → not (here w ch) || quietLines (chan w c) (onLevel dcd) ≡ true → KeptBy w c (linesCall c ch dcd cts)
+    → not (here w ch) || quietLines (chan w c) (onLevel dcd) ≡ true
+    → KeptBy w c (linesCall c ch dcd cts)
 unfolding linesCall
 set-lines-kept A c ch dcd cts q =
     call-kept A c ch _ _

@@ -33,4 +33,5 @@ fed w c [] t = over
 fed w c (e ∷ st) t =
     let a = allowed w c e (role w e) in
     let n = inRoom w (happens c e .chip) st in
-    next-fed w c e st (role w e) refl (both-left a n t) (fed w (happens c e .chip) st (both-right a n t))
+    next-fed w c e st (role w e) refl (both-left a n t)
+    (fed w (happens c e .chip) st (both-right a n t))
