@@ -1,3 +1,10 @@
-pub mod Receiving
-pub mod Sending
-pub mod Together
+pub mod Side
+pub mod Events
+pub mod Conserved
+pub mod Statement
+pub mod Shown
+pub mod Demand
+pub mod Register
+pub mod Hunt
+pub mod Quiet
+pub mod Room

@@ -1,2 +1,2 @@
-// The byte-synchronous modes' demand over stories of events on a chip: what a terminal's block is to a receiver, and
-// how a sender makes one. Statements and proofs alone. Assumes nothing.
+// Demand 2 for Monosync and Bisync over stories of events on a chip: what a block is to a receiver. Statements and
+// proofs alone. Assumes nothing.

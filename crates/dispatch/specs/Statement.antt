@@ -16,7 +16,7 @@ use Rattle.chip.specs.Event.{Event, ControlWrite, DataWrite, Transmit}
 use Rattle.stories.specs.Story.{Which, number, chan, happens, after}
 use Rattle.stories.specs.Sent.{Else, role, lineOf, ticks, d6}
 use Rattle.history.specs.Sending.Side.{fullOf, latchOf}
-use Rattle.terminals.specs.Sending.Side.{Good, sideOf, syncingOf}
+use Rattle.dispatch.specs.Side.{Good, sideOf, syncingOf}
 
 abbrev pub syncsOf : Which → Chip → Syncs
 syncsOf w c = syncingOf w c .syncs

@@ -17,9 +17,9 @@ use Rattle.chip.specs.Event.{Transmit}
 use Rattle.stories.specs.Story.{Which, A, B, number, chan, happens}
 use Rattle.stories.specs.Sent.{lineOf}
 use Rattle.sending.specs.Shown.{unlatched-shows, tick-shown, shows-read}
-use Rattle.terminals.specs.Sending.Side.{SenderSide, sideOf}
-use Rattle.terminals.specs.Sending.Events.{tickedOf, tick-side, tick-bit}
-use Rattle.terminals.specs.Sending.Statement.{RunsDry, LatchShown}
+use Rattle.dispatch.specs.Side.{SenderSide, sideOf}
+use Rattle.dispatch.specs.Events.{tickedOf, tick-side, tick-bit}
+use Rattle.dispatch.specs.Statement.{RunsDry, LatchShown}
 
 pointer-stays : (w : Which) (c : Chip)
     → chan w (happens c (Transmit (number w)) .chip) .pointer ≡ chan w c .pointer

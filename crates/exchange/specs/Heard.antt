@@ -20,11 +20,11 @@ use Rattle.stories.specs.Story.{A, after}
 use Rattle.stories.specs.Received.{bitsOf}
 use Rattle.stories.specs.Receiving.{story}
 use Rattle.stories.specs.Calls.{set}
-use Rattle.terminals.specs.Receiving.Side.{sideOf, momentsOf}
-use Rattle.terminals.specs.Receiving.Statement.{Listening, matchingOf, BlockFed, Received}
-use Rattle.terminals.specs.Receiving.Statement.{rr1D6}
-use Rattle.terminals.specs.Receiving.Room.{inRoom, fed}
-use Rattle.terminals.specs.Receiving.Demand.{block-received, flip-seen}
+use Rattle.terminals.specs.Side.{sideOf, momentsOf}
+use Rattle.terminals.specs.Statement.{Listening, matchingOf, BlockFed, Received}
+use Rattle.terminals.specs.Statement.{rr1D6}
+use Rattle.terminals.specs.Room.{inRoom, fed}
+use Rattle.terminals.specs.Demand.{block-received, flip-seen}
 
 -- from a hard reset: Monosync, WR7, CRC-16, on with leading syncs kept out, the check preset
 abbrev pub begin : Chip

@@ -37,10 +37,10 @@ use Rattle.chip.specs.Event.{ControlWrite}
 use Rattle.stories.specs.Story.{Which, A, B, number, chan, happens, after}
 use Rattle.stories.specs.Sent.{ticks}
 use Rattle.history.specs.Sending.Side.{sendingIn}
-use Rattle.terminals.specs.Sending.Side.{Heeded, heeded, Good, SenderSide, sideOf}
-use Rattle.terminals.specs.Sending.Side.{syncingOf}
-use Rattle.terminals.specs.Sending.Statement.{syncsOf, Start, blockTicks, anew, NextBlock}
-use Rattle.terminals.specs.Sending.Block.{kept, all-come}
+use Rattle.dispatch.specs.Side.{Heeded, heeded, Good, SenderSide, sideOf}
+use Rattle.dispatch.specs.Side.{syncingOf}
+use Rattle.dispatch.specs.Statement.{syncsOf, Start, blockTicks, anew, NextBlock}
+use Rattle.dispatch.specs.Block.{kept, all-come}
 
 -- Where nothing is to come the closing sync has ended
 

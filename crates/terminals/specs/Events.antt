@@ -32,8 +32,8 @@ use Rattle.chip.specs.Event.{Event, HardReset, ControlWrite, ControlRead, DataW
 use Rattle.chip.specs.Event.{Transmit, Receive, SetLines, Acknowledge, Reti}
 use Rattle.stories.specs.Story.{Which, A, B, number, happens}
 use Rattle.stories.specs.Received.{Role, Hears, Reads, Else, role, bitIn, bitsOf}
-use Rattle.terminals.specs.Receiving.Side.{Heeded, heeded, Side, side, receivingIn, sideIn}
-use Rattle.terminals.specs.Receiving.Side.{sideOf, checkingOf, momentIn, momentsOf}
+use Rattle.terminals.specs.Side.{Heeded, heeded, Side, side, receivingIn, sideIn}
+use Rattle.terminals.specs.Side.{sideOf, checkingOf, momentIn, momentsOf}
 
 -- a tick in either mode
 hear-blocks : (g : Receiving) (s : Receiver) (b : Bool) → inBlocks (g .mode) ≡ true

@@ -22,8 +22,8 @@ use Rattle.chip.specs.declared.Chip.{Chip}
 use Rattle.chip.specs.Interrupts.{anyPending, rr2}
 use Rattle.chip.specs.Chip.{controlReadCall}
 use Rattle.stories.specs.Story.{Which, A, B, chan}
-use Rattle.terminals.specs.Receiving.Side.{sideIn, sideOf}
-use Rattle.terminals.specs.Receiving.Statement.{rr1D6, d4}
+use Rattle.terminals.specs.Side.{sideIn, sideOf}
+use Rattle.terminals.specs.Statement.{rr1D6, d4}
 
 placed-le : (b : Bool) (w : ℕ) → placed b w ≤ w
 placed-le true w = omega arith

@@ -23,8 +23,8 @@ use Rattle.chip.specs.declared.Chip.{Chip}
 use Rattle.chip.specs.Chip.{serviceBy, controlWriteA, controlWrite}
 use Rattle.chip.specs.Interrupts.{inService}
 use Rattle.stories.specs.Story.{Which, A, B, chan}
-use Rattle.terminals.specs.Receiving.Statement.{HuntBegun, HuntAgain}
-use Rattle.terminals.specs.Receiving.Shown.{d4-is}
+use Rattle.terminals.specs.Statement.{HuntBegun, HuntAgain}
+use Rattle.terminals.specs.Shown.{d4-is}
 
 -- hunt as it now is shows, unless status was latched
 unlatched-shows : (s : Status) (was is : Live) → s .latched ≡ false → is .hunt ≡ true

@@ -24,7 +24,7 @@ use Rattle.chip.specs.Event.{DataWrite, Transmit}
 use Rattle.stories.specs.Story.{Which, A, B, number, chan, happens}
 use Rattle.stories.specs.Sent.{isTick, lineBit}
 use Rattle.history.specs.Sending.Side.{sendingIn}
-use Rattle.terminals.specs.Sending.Side.{Good, SenderSide, side, sideOf}
+use Rattle.dispatch.specs.Side.{Good, SenderSide, side, sideOf}
 
 tick-blocks : (g : Sending) (s : Sender) → inBlocks (g .mode) ≡ true → tick g s ≡ tickInBlocks g s
 unfolding tick

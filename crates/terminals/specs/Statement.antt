@@ -30,8 +30,8 @@ use Rattle.chip.specs.Event.{Event, ControlWrite, ControlRead}
 use Rattle.stories.specs.Story.{Which, number, chan, happens, after}
 use Rattle.stories.specs.Received.{Role, Hears, Reads, Else, role, bitIn, bitsOf, valuesOf, tookOf}
 use Rattle.stories.specs.Received.{bytesOf}
-use Rattle.terminals.specs.Receiving.Side.{Side, receivingIn, sideOf, momentsOf}
-use Rattle.terminals.specs.Receiving.Conserved.{Fed}
+use Rattle.terminals.specs.Side.{Side, receivingIn, sideOf, momentsOf}
+use Rattle.terminals.specs.Conserved.{Fed}
 
 -- A receiver that is on, hunt begun, its check preset, queue empty. WR6 and WR7 are bytes, and the
 -- queue has three places: every chip with a history has them

@@ -39,7 +39,7 @@ use Rattle.chip.specs.Event.{Transmit, Receive, SetLines, Acknowledge, Reti}
 use Rattle.stories.specs.Story.{Which, A, B, chan, happens}
 use Rattle.stories.specs.Received.{here}
 use Rattle.history.specs.Receiving.Tools.{refused-test, or-right}
-use Rattle.terminals.specs.Receiving.Side.{Side, side, sideIn, sideOf}
+use Rattle.terminals.specs.Side.{Side, side, sideIn, sideOf}
 
 -- The test
 

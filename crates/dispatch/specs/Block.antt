@@ -24,11 +24,11 @@ use Rattle.stories.specs.Story.{Which, number, chan, happens, after}
 use Rattle.stories.specs.Sent.{ticksBy, isTick, lineOf, ticks}
 use Rattle.history.specs.Sending.Events.{tick-counts, write-no-tick, skip-line, skip-ticks}
 use Rattle.history.specs.Sending.Events.{line-length}
-use Rattle.terminals.specs.Sending.Side.{Heeded, Good, SenderSide, side, sideOf, syncingOf}
-use Rattle.terminals.specs.Sending.Events.{tick-side, tick-bit, write-side}
-use Rattle.terminals.specs.Sending.Statement.{syncsOf, Start, InTime, over, still, writes}
-use Rattle.terminals.specs.Sending.Statement.{writes-behind, ticking, blockTicks, BlockSent}
-use Rattle.terminals.specs.Sending.Statement.{BlockBegun}
+use Rattle.dispatch.specs.Side.{Heeded, Good, SenderSide, side, sideOf, syncingOf}
+use Rattle.dispatch.specs.Events.{tick-side, tick-bit, write-side}
+use Rattle.dispatch.specs.Statement.{syncsOf, Start, InTime, over, still, writes}
+use Rattle.dispatch.specs.Statement.{writes-behind, ticking, blockTicks, BlockSent}
+use Rattle.dispatch.specs.Statement.{BlockBegun}
 
 -- behind a story: what was sent and what is to come are what was to come
 pub record Conserved (w : Which) (c : Chip) (st : List Event) (h : Heeded) (s : Sends)

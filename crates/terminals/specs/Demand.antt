@@ -23,13 +23,13 @@ use Rattle.chip.specs.Event.{Event}
 use Rattle.stories.specs.Story.{Which, chan, after}
 use Rattle.stories.specs.Received.{tookOf, bytesOf}
 use Rattle.history.specs.Receiving.Events.{bytes-append, values-are}
-use Rattle.terminals.specs.Receiving.Side.{Side, sideOf, momentsOf}
-use Rattle.terminals.specs.Receiving.Events.{moments-bits}
-use Rattle.terminals.specs.Receiving.Conserved.{Fed, Conserved, conserved}
-use Rattle.terminals.specs.Receiving.Statement.{Listening, matchingOf, syncsOf, polynomialAt}
-use Rattle.terminals.specs.Receiving.Statement.{BlockFed, rr1D6, BlockReceived}
-use Rattle.terminals.specs.Receiving.Statement.{FlipSeen}
-use Rattle.terminals.specs.Receiving.Shown.{d6-is}
+use Rattle.terminals.specs.Side.{Side, sideOf, momentsOf}
+use Rattle.terminals.specs.Events.{moments-bits}
+use Rattle.terminals.specs.Conserved.{Fed, Conserved, conserved}
+use Rattle.terminals.specs.Statement.{Listening, matchingOf, syncsOf, polynomialAt}
+use Rattle.terminals.specs.Statement.{BlockFed, rr1D6, BlockReceived}
+use Rattle.terminals.specs.Statement.{FlipSeen}
+use Rattle.terminals.specs.Shown.{d6-is}
 
 -- either polynomial is one of sixteen bits, with a 1
 small : (d2 : Bool) → polynomialOf d2 < 65536

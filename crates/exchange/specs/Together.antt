@@ -19,14 +19,14 @@ use Rattle.chip.specs.Event.{Event}
 use Rattle.stories.specs.Story.{Which}
 use Rattle.stories.specs.Sent.{lineOf, ticks}
 use Rattle.stories.specs.Received.{bitsOf}
-use Rattle.terminals.specs.Receiving.Side.{momentsOf}
-use Rattle.terminals.specs.Receiving.Side as receiving
-use Rattle.terminals.specs.Receiving.Conserved.{Fed}
-use Rattle.terminals.specs.Receiving.Statement.{Listening, matchingOf, polynomialAt, Received}
-use Rattle.terminals.specs.Receiving.Demand.{block-received}
-use Rattle.terminals.specs.Sending.Side.{syncingOf}
-use Rattle.terminals.specs.Sending.Statement.{syncsOf, Start, InTime, blockTicks}
-use Rattle.terminals.specs.Sending.Block.{block-sent}
+use Rattle.terminals.specs.Side.{momentsOf}
+use Rattle.terminals.specs.Side as receiving
+use Rattle.terminals.specs.Conserved.{Fed}
+use Rattle.terminals.specs.Statement.{Listening, matchingOf, polynomialAt, Received}
+use Rattle.terminals.specs.Demand.{block-received}
+use Rattle.dispatch.specs.Side.{syncingOf}
+use Rattle.dispatch.specs.Statement.{syncsOf, Start, InTime, blockTicks}
+use Rattle.dispatch.specs.Block.{block-sent}
 
 -- the bits that r hears are those that c sends, from the first of the sync to the character behind
 -- the check; WR3 D3 is set for just the bytes and the check

@@ -26,11 +26,11 @@ use Rattle.chip.specs.Event.{Event, HardReset, ControlWrite, ControlRead, DataW
 use Rattle.chip.specs.Event.{Transmit, Receive, SetLines, Acknowledge, Reti}
 use Rattle.stories.specs.Story.{Which, A, B, number, chan, happens, after}
 use Rattle.stories.specs.Received.{Role, Hears, Reads, Else, role, bitIn}
-use Rattle.terminals.specs.Receiving.Side.{receivingIn, sideOf}
-use Rattle.terminals.specs.Receiving.Events.{hear-on, hear-off}
-use Rattle.terminals.specs.Receiving.Statement.{receptionOf, checkOf, Since, over, hears}
-use Rattle.terminals.specs.Receiving.Statement.{searches, still, taleOf, talesOf, RegisterIs}
-use Rattle.terminals.specs.Receiving.Statement.{RegisterSincePreset}
+use Rattle.terminals.specs.Side.{receivingIn, sideOf}
+use Rattle.terminals.specs.Events.{hear-on, hear-off}
+use Rattle.terminals.specs.Statement.{receptionOf, checkOf, Since, over, hears}
+use Rattle.terminals.specs.Statement.{searches, still, taleOf, talesOf, RegisterIs}
+use Rattle.terminals.specs.Statement.{RegisterSincePreset}
 
 -- what a tick makes of the receiver
 abbrev heardIn : Which → Chip → Bool → Heard

@@ -7,9 +7,9 @@ use Rattle.chip.specs.declared.Chip.{Chip}
 use Rattle.chip.specs.Event.{Event}
 use Rattle.stories.specs.Story.{Which, happens}
 use Rattle.stories.specs.Received.{Role, Hears, Reads, Else, role}
-use Rattle.terminals.specs.Receiving.Side.{sideOf, checkingOf}
-use Rattle.terminals.specs.Receiving.Conserved.{roomy, Fed, over, hears, reads, still}
-use Rattle.terminals.specs.Receiving.Quiet.{quiet, quiet-keeps}
+use Rattle.terminals.specs.Side.{sideOf, checkingOf}
+use Rattle.terminals.specs.Conserved.{roomy, Fed, over, hears, reads, still}
+use Rattle.terminals.specs.Quiet.{quiet, quiet-keeps}
 
 abbrev pub allowed : Which → Chip → Event → Role → Bool
 allowed w c e (Hears b) = roomy (sideOf w c) (checkingOf w c) b

@@ -20,10 +20,10 @@ use Rattle.chip.specs.declared.Chip.{Chip}
 use Rattle.chip.specs.Event.{Event}
 use Rattle.stories.specs.Story.{Which, chan, happens, after}
 use Rattle.stories.specs.Received.{Role, Hears, Reads, Else, role, isRead, taking, tookOf}
-use Rattle.terminals.specs.Receiving.Side.{Heeded, Side, side, sideOf, checkingOf, momentIn}
-use Rattle.terminals.specs.Receiving.Side.{momentsOf}
-use Rattle.terminals.specs.Receiving.Events.{queuedBy, heardBy, heardSide, readSide, Follows}
-use Rattle.terminals.specs.Receiving.Events.{Hearing, follows}
+use Rattle.terminals.specs.Side.{Heeded, Side, side, sideOf, checkingOf, momentIn}
+use Rattle.terminals.specs.Side.{momentsOf}
+use Rattle.terminals.specs.Events.{queuedBy, heardBy, heardSide, readSide, Follows}
+use Rattle.terminals.specs.Events.{Hearing, follows}
 
 -- "stays on .. read before a fourth character waits and else untouched but for WR3 D3": a tick that
 -- hands a character over finds room, reads come as they like, and what else happens leaves the side
