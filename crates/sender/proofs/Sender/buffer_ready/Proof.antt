@@ -11,13 +11,13 @@ sends-check-requires : tie.Need-sends-check-requires
 sends-check-requires c κs = search needs
 
 returns : tie.Need-returns
-returns c = simp (tests, c .sends-check .ensures, c .before .if1 .taken, ← c .before .before .in-blocks .ensures)
+returns c = simp (tests, c .sends-check .ensures, c .before .before .if1 .taken, ← c .before .before .before .in-blocks .ensures)
 
 checking-requires : tie.Need-checking-requires
 checking-requires c κs = search needs
 
 returns-2 : tie.Need-returns-2
-returns-2 c = simp (tests, c .checking .ensures, c .before .if1 .left, ← c .before .before .in-blocks .ensures)
+returns-2 c = simp (tests, c .checking .ensures, c .before .before .if1 .left, ← c .before .before .before .in-blocks .ensures)
 
 pub buffer-ready-spec : {M : Type 1} → statement M
 buffer-ready-spec =
