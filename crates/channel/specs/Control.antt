@@ -107,7 +107,7 @@ controlWritten c w v =
 -- else 0), D5 CTS, D6, D7." Whether a source is pending is the chip's to say
 abbrev pub rr0Of : Channel → Bool → Live → ℕ
 rr0Of c pending s =
-    placed (waits (c .queue)) 0b1 + placed pending 0b10 + placed (bufferReady (c .sender)) 0b100 + placed (s .dcd) 0b1000
+    placed (waits (c .queue)) 0b1 + placed pending 0b10 + placed (bufferReady (sendingOf (c .registers) (c .lines)) (c .sender)) 0b100 + placed (s .dcd) 0b1000
     + placed (s .hunt) 0b10000 + placed (s .cts) 0b100000 + placed (s .underrun) 0b1000000 + placed (s .abort) 0b10000000
 
 unfoldable pub rr0 : Channel → Bool → ℕ

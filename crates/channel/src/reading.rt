@@ -13,10 +13,11 @@ impl Channel {
     pub fn rr0(self, pending: bool) -> u8
         ensures { λ r. ⌜ r ≡ rr0 self pending ⌝ }
     {
+        let g = self.registers.sending(self.lines);
         let s = self.status.shown_bits(self.live());
         let d0 = placed(self.queue.waits(), 0b1);
         let d1 = placed(pending, 0b10);
-        let d2 = placed(self.sender.buffer_ready(), 0b100);
+        let d2 = placed(self.sender.buffer_ready(g), 0b100);
         let d3 = placed(s.dcd, 0b1000);
         let d4 = placed(s.hunt, 0b10000);
         let d5 = placed(s.cts, 0b100000);

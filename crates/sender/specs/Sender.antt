@@ -3,7 +3,7 @@
 use mathlib.Core.Bool.{Bool, true, false, not, _&&_, _||_}
 use Prim.Native.Nat.{ℕ}
 use Rattle.common.specs.Choice.{if_then_else_}
-use Rattle.common.specs.Mode.{inSdlc, synchronous}
+use Rattle.common.specs.Mode.{inSdlc, inBlocks, synchronous}
 use Rattle.common.specs.declared.Mode.{Mode}
 use Rattle.common.specs.declared.Mode.the-variants.{NoMode, Asynchronous, Monosync, Bisync, Sdlc}
 use Rattle.line.specs.declared.Insertion.{Insertion}
@@ -118,6 +118,7 @@ abbrev pub allSent : Sending → Sender → Bool
 allSent g s = synchronous (g .mode) || (not (underWay (s .character)) && not (s .shared .full))
 
 -- 01, Registers: RR0 "D2 transmit buffer empty and no check being sent"
-abbrev pub bufferReady : Sender → Bool
-bufferReady s =
-    not (s .shared .full) && not (checking (s .unit) || sendsCheck (s .block))
+abbrev pub bufferReady : Sending → Sender → Bool
+bufferReady g s =
+    not (s .shared .full)
+    && not (if inBlocks (g .mode) then sendsCheck (s .block) else checking (s .unit))

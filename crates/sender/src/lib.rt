@@ -252,11 +252,15 @@ impl Sender {
     }
 
     // RR0 D2.
-    pub fn buffer_ready(self) -> bool
-        ensures { λ r. ⌜ r ≡ bufferReady self ⌝ }
+    pub fn buffer_ready(self, g: Sending) -> bool
+        ensures { λ r. ⌜ r ≡ bufferReady g self ⌝ }
     {
+        let mode = g.mode;
         let u = self.unit;
         let b = self.block;
-        !self.shared.full & !(u.checking() | b.sends_check())
+        if in_blocks(mode) {
+            return !self.shared.full & !b.sends_check();
+        }
+        !self.shared.full & !u.checking()
     }
 }

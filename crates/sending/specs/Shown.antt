@@ -17,7 +17,7 @@ use Rattle.sender.specs.declared.Sender.{Sender}
 use Rattle.sender.specs.Sender.{aborted, bufferReady}
 use Rattle.interrupts.specs.declared.Six.{Six}
 use Rattle.interrupts.specs.Interrupts.{acknowledged, ended}
-use Rattle.settings.specs.Settings.{commandIn, presetIn, entersHunt, modeOf, modeIn, notBuilt}
+use Rattle.settings.specs.Settings.{commandIn, presetIn, entersHunt, modeOf, modeIn, notBuilt, sendingOf}
 use Rattle.channel.specs.declared.Side.{Side}
 use Rattle.status.specs.declared.Status.{Status}
 use Rattle.channel.specs.declared.Channel.{Channel}
@@ -57,9 +57,9 @@ rr0-d6 : (c : Channel) (pending : Bool) → odd (rr0 c pending / 64) ≡ shownBi
 unfolding rr0
 rr0-d6 c pending =
     let s = shownBits (c .status) (liveOf c) in
-    high-two (placed (waits (c .queue)) 0b1 + placed pending 0b10 + placed (bufferReady (c .sender)) 0b100 + placed (s .dcd) 0b1000 + placed (s .hunt) 0b10000 + placed (s .cts) 0b100000)
+    high-two (placed (waits (c .queue)) 0b1 + placed pending 0b10 + placed (bufferReady (sendingOf (c .registers) (c .lines)) (c .sender)) 0b100 + placed (s .dcd) 0b1000 + placed (s .hunt) 0b10000 + placed (s .cts) 0b100000)
     (s .underrun) (s .abort)
-    (omega (arith, placed-le (waits (c .queue)) 0b1, placed-le pending 0b10, placed-le (bufferReady (c .sender)) 0b100, placed-le (s .dcd) 0b1000, placed-le (s .hunt) 0b10000, placed-le (s .cts) 0b100000))
+    (omega (arith, placed-le (waits (c .queue)) 0b1, placed-le pending 0b10, placed-le (bufferReady (sendingOf (c .registers) (c .lines)) (c .sender)) 0b100, placed-le (s .dcd) 0b1000, placed-le (s .hunt) 0b10000, placed-le (s .cts) 0b100000))
 
 read-rr0 : (c : Channel) (pending : Bool) (vector : ℕ) → c .pointer ≡ 0 → readRegister c pending vector ≡ rr0 c pending
 unfolding readRegister
