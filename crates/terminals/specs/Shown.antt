@@ -116,14 +116,15 @@ rr0-d4 : (c : Channel) (pending : Bool)
 unfolding rr0
 rr0-d4 c pending =
     let s = shownBits (c .status) (liveOf c) in
-    d4-of (placed (waits (c .queue)) 0b1 + placed pending 0b10
-    + placed (bufferReady (c .sender)) 0b100 + placed (s .dcd) 0b1000)
+    let ready = bufferReady (sendingOf (c .registers) (c .lines)) (c .sender) in
+    d4-of (placed (waits (c .queue)) 0b1 + placed pending 0b10 + placed ready 0b100
+    + placed (s .dcd) 0b1000)
     (s .hunt) (s .cts) (s .underrun) (s .abort)
     (omega (
       arith,
       placed-le (waits (c .queue)) 0b1,
       placed-le pending 0b10,
-      placed-le (bufferReady (c .sender)) 0b100,
+      placed-le ready 0b100,
       placed-le (s .dcd) 0b1000,
     ))
 
