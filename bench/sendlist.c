@@ -1,4 +1,4 @@
-/* The program sendlist in plain C, over the plain C chip. */
+/* The program sendlist in plain C, over the plain C chip: between two notes a closing and an opening flag. */
 #include "station.h"
 int printf(const char *, ...);
 size fread(void *, size, size, void *);
@@ -22,6 +22,11 @@ static int scan(size len) {
     return 0;
 }
 
+/* The opening flag of a next note. */
+static void send_flag(struct chip *c) {
+    for (int left = 8; left > 0; left--) transmit(c, 0);
+}
+
 int main(void) {
     size len = fread(list, 1, sizeof list, stdin), notes = 0, total = 0;
     int refusal = scan(len);
@@ -32,9 +37,10 @@ int main(void) {
     }
     reset(&c);
     for (size i = 1; i < len;) {
+        if (notes) send_flag(&c);
         size n = list[i] << 8 | list[i + 1], zeros, ticks = send(&c, list + i + 2, n, &zeros);
         printf("%lu %lu %lu %lu\n", ++notes, n, zeros, ticks);
-        total += total ? ticks - 8 : ticks;
+        total += ticks;
         i += 2 + n;
     }
     printf("end %lu %lu\n", notes, total);

@@ -557,13 +557,26 @@ def notes_of(data):
     return notes
 
 
-def report(data):
-    """A row for each note of a list, and the ticks in all: a closing flag opens the next frame."""
-    rows = []
-    for number, note in enumerate(notes_of(data), 1):
+def list_line(notes, shared):
+    """The bits of a list's notes, one behind the other: each a whole frame, or behind the flag that closed the one before."""
+    line = []
+    for note in notes:
+        bits = line_of(note)[0]
+        line += bits[8:] if shared and line else bits
+    return line
+
+
+def report(data, shared=False):
+    """A row for each note of a list, and the ticks in all."""
+    notes, rows = notes_of(data), []
+    for number, note in enumerate(notes, 1):
         bits, zeros = line_of(note)
         rows.append([number, len(note), zeros, len(bits)])
-    return rows, sum(row[3] for row in rows) - 8 * max(len(rows) - 1, 0)
+    return rows, len(list_line(notes, shared))
+
+
+def page_ticks(data):
+    return report(data, shared=True)[1]
 
 
 def run(data):

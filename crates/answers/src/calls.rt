@@ -3,6 +3,7 @@ use crate::Item;
 use crate::LIST;
 use crate::NAME;
 use crate::REGISTER;
+use crate::SHARED_LIST;
 use crate::STOP;
 use crate::Sheet;
 use crate::input::next_call;
@@ -11,6 +12,7 @@ use crate::part;
 use crate::two;
 use crate::wide;
 use chip::Chip;
+use flags::Between;
 use report::Pages;
 use station::Listed;
 ghost use mathlib.Core.Path.{_≡_};
@@ -84,6 +86,14 @@ fn all_is(l: Listed, t: Item) -> bool {
     }
 }
 
+// How the notes of an item's list follow each other.
+fn between_of(t: Item) -> Between {
+    if t.kind == SHARED_LIST {
+        return Between::SharedFlag;
+    }
+    Between::usual()
+}
+
 fn pages_are(p: Pages, t: Item) -> bool {
     match p {
         Pages::Ticks(n) => t.is(0, n),
@@ -137,13 +147,21 @@ fn row_is(rows: &[usize], j: usize, wanted: &[u8], i: usize) -> bool {
         & (at(rows, j + 3) == two_at(wanted, i + 6))
 }
 
-// A list through the chip, with room for x numbers of its rows, or for all; the page timer gives the same ticks.
+// The page timer gives the ticks of a list whose notes share flags.
+fn timed(list: &[u8], t: Item) -> bool {
+    if t.kind == LIST {
+        return true;
+    }
+    pages_are(report::page_ticks(list), t)
+}
+
+// A list through the chip, with room for x numbers of its rows, or for all.
 fn listed_in(rows: &mut [usize], c: Chip, s: Sheet, list: &[u8], wanted: &[u8]) -> Game {
     let t = s.item;
     let room = room_of(rows, t.x);
-    let o = station::send_list(c, list, &mut rows[0..room]);
+    let o = station::send_list(c, list, &mut rows[0..room], between_of(t));
     let l = o.listed;
-    let right = all_is(l, t) & pages_are(report::page_ticks(list), t) & rows_are(rows, wanted);
+    let right = all_is(l, t) & timed(list, t) & rows_are(rows, wanted);
     after(o.chip, s, right)
 }
 
@@ -169,7 +187,7 @@ fn turn(c: Chip, s: Sheet, given: &[u8], wanted: &[u8]) -> Game {
     if t.kind < NAME {
         return played(c, s);
     }
-    if t.kind == LIST {
+    if (t.kind == LIST) | (t.kind == SHARED_LIST) {
         return listed(c, s, part(given, s.given), part(wanted, s.wanted));
     }
     if t.kind == REGISTER {

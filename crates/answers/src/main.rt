@@ -46,6 +46,8 @@ const SCAN: u8 = 18;
 
 const TRACE: u8 = 19;
 
+const SHARED_LIST: u8 = 20;
+
 const STOP: u8 = 255;
 
 // No value is asked for.

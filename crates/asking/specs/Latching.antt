@@ -3,7 +3,7 @@
 -- latches again if one changed by that rule." With WR1 D0 set RR0 D1 tells whether they are
 -- latched. Assumes nothing.
 use mathlib.Core.Path.{_≡_, refl}
-use mathlib.Core.List.{List, [], _∷_, _++_, map}
+use mathlib.Core.List.{List, [], _∷_, _++_}
 use Prim.Native.Nat.{ℕ}
 use Rattle.chip.specs.Computing.{computing}
 use Rattle.chip.specs.Event.{Event, Receive, SetLines}

@@ -1,7 +1,7 @@
 -- 01, Interrupts: which sources are pending. RR0 D1 of A, "any source pending", shows it: 2 in the
 -- last digit. Assumes nothing.
 use mathlib.Core.Path.{_≡_, refl}
-use mathlib.Core.List.{List, [], _∷_, _++_, map}
+use mathlib.Core.List.{List, [], _∷_, _++_}
 use Prim.Native.Nat.{ℕ}
 use Rattle.chip.specs.Computing.{computing}
 use Rattle.chip.specs.Event.{Event, SetLines}

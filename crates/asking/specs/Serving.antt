@@ -1,7 +1,7 @@
 -- 01, Interrupts: acknowledge, RETI and WR0's command 7. Assumes nothing.
 use mathlib.Core.Path.{_≡_, refl}
-use mathlib.Core.List.{List, [], _∷_, _++_, map}
-use Prim.Native.Nat.{ℕ, _+_}
+use mathlib.Core.List.{List, [], _∷_, _++_}
+use Prim.Native.Nat.{_+_}
 use Rattle.chip.specs.Computing.{computing}
 use Rattle.chip.specs.Event.{Event, SetLines, Acknowledge, Reti}
 use Rattle.tales.specs.Tale.{after, times, digits, reads, refusal, vector}

@@ -1,11 +1,11 @@
 -- 01, Interrupts: priority and vectors, RR2 and RR0 D1. Assumes nothing.
 use mathlib.Core.Path.{_≡_, refl}
-use mathlib.Core.List.{List, [], _∷_, _++_, map}
+use mathlib.Core.List.{List, [], _∷_, _++_}
 use Prim.Native.Nat.{ℕ}
 use Rattle.chip.specs.Computing.{computing}
 use Rattle.chip.specs.Event.{Event, SetLines, Acknowledge}
 use Rattle.tales.specs.Tale.{after, times, digits, reads, vector}
-use Rattle.tales.specs.Words.{command, set, writes, takes, ticks, oneStop, sdlc, hearing}
+use Rattle.tales.specs.Words.{set, writes, takes, ticks, oneStop, sdlc, hearing}
 use Rattle.tales.specs.Words.{sending, sendEight, char41, frame00}
 use Rattle.asking.specs.Happens.{happens}
 

@@ -1,7 +1,7 @@
 -- The planner's side of 01, Sending: how a station drives channel A of a chip, call by call, to
 -- send a note. Assumes nothing.
 use mathlib.Core.Bool.{Bool, true, false, not, _&&_}
-use mathlib.Core.List.{List, [], _∷_, foldl}
+use mathlib.Core.List.{List, [], _∷_}
 use Prim.Native.Nat.{ℕ, zero, suc, _+_, _-_, _*_, _/_}
 use lib.Dec.{eqb}
 use lib.ListN.{length, getD, drop}
@@ -157,7 +157,3 @@ ticksLeft note = ticksOf note - length flagBits
 
 unfoldable pub sentBy : Chip → List ℕ → Chip
 sentBy c note = driven (ticksLeft note) (frameOpened c (getD note 0 0)) (drop 1 note)
-
--- each note in its turn: the closing flag of one opens the next
-abbrev pub sentAll : Chip → List (List ℕ) → Chip
-sentAll c notes = foldl sentBy c notes

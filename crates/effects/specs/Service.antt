@@ -1,7 +1,6 @@
 -- 01, Interrupts: "Events on B never change A's .., nor the reverse; interrupts and hard reset are
 -- shared." Of the events on A one is an interrupt's: WR0 with "7 as RETI". Assumes nothing.
 use mathlib.Core.Bool.{Bool, false}
-use Prim.Native.Nat.{ℕ}
 use Rattle.chip.specs.declared.Chip.{Chip}
 use Rattle.chip.specs.Chip.{endsService}
 use Rattle.chip.specs.Event.{Event}

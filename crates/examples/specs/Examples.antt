@@ -10,6 +10,8 @@ use Rattle.line.specs.Frame.{frame}
 use Rattle.chip.specs.declared.Chip.{Chip}
 use Rattle.chip.specs.Chip.{hardReset}
 use Rattle.chip.specs.Event.{Event, ControlWrite, ControlRead, DataWrite, DataRead, Acknowledge, Reti}
+use Rattle.flags.specs.declared.Between.the-variants.{SharedFlag}
+use Rattle.flags.specs.Flags.{usual}
 use Rattle.report.specs.Report.{Report, report, refusal, reportOf}
 use Rattle.examples.specs.Run.{after, given, ticks, heard, wired, digits}
 
@@ -86,12 +88,13 @@ abbrev pub printed : Report → List ℕ
 printed (report rows notes ticks) = rows ++ (notes ∷ ticks ∷ [])
 printed (refusal k) = numberOf k ∷ []
 
--- 9. "Input 01 0001 00 0001 FF 0001 88 (hex) prints `1 1 0 40`, `2 1 2 42`, `3 1 1 41`, `end 3 107`."
+-- 9. "Input 01 0001 00 0001 FF 0001 88 (hex) prints `1 1 0 40`, `2 1 2 42`, `3 1 1 41`, `end 3 107`."; 02, P7: "so marked example 9 ends in `end 3
+-- 123`", and shared as before
 abbrev pub input9 : List ℕ
 input9 = 0x01 ∷ 0x00 ∷ 0x01 ∷ 0x00 ∷ 0x00 ∷ 0x01 ∷ 0xFF ∷ 0x00 ∷ 0x01 ∷ 0x88 ∷ []
 
-abbrev pub output9 : List ℕ
-output9 = 1 ∷ 1 ∷ 0 ∷ 40 ∷ 2 ∷ 1 ∷ 2 ∷ 42 ∷ 3 ∷ 1 ∷ 1 ∷ 41 ∷ 3 ∷ 107 ∷ []
+abbrev pub rows9 : List ℕ
+rows9 = 1 ∷ 1 ∷ 0 ∷ 40 ∷ 2 ∷ 1 ∷ 2 ∷ 42 ∷ 3 ∷ 1 ∷ 1 ∷ 41 ∷ []
 
 -- 10. "Input 01: `end 0 0`. Length 2048 passes, 2049 and 0 are 6.": a list of one note, n bytes 00. That of 2,048 passes with a row, of which the
 -- table has the first two numbers: to count its zeros here would take longer than all the rest
@@ -111,9 +114,11 @@ examples =
     ∷ example 6 (readsBack sevenOdd 0x41 10) (0xC1 ∷ [])
     ∷ example 7 (readsBack fiveEven 0x01 8) (0xE1 ∷ [])
     ∷ example 8 (given special8 asks8) (0xEE ∷ 0xFF ∷ 0 ∷ 0 ∷ 0xE6 ∷ [])
-    ∷ example 9 (printed (reportOf input9)) output9
-    ∷ example 10 (printed (reportOf (0x01 ∷ []))) (0 ∷ 0 ∷ [])
-    ∷ example 10 (take 2 (printed (reportOf (oneNote 2048)))) (1 ∷ 2048 ∷ [])
-    ∷ example 10 (printed (reportOf (oneNote 2049))) (6 ∷ [])
-    ∷ example 10 (printed (reportOf (oneNote 0))) (6 ∷ [])
+    ∷ example 9 (printed (reportOf usual input9)) (rows9 ++ (3 ∷ 123 ∷ []))
+    ∷ example 9 (printed (reportOf SharedFlag input9)) (rows9 ++ (3 ∷ 107 ∷ []))
+    ∷ example 10 (printed (reportOf usual (0x01 ∷ []))) (0 ∷ 0 ∷ [])
+    ∷ example 10 (printed (reportOf SharedFlag (0x01 ∷ []))) (0 ∷ 0 ∷ [])
+    ∷ example 10 (take 2 (printed (reportOf usual (oneNote 2048)))) (1 ∷ 2048 ∷ [])
+    ∷ example 10 (printed (reportOf usual (oneNote 2049))) (6 ∷ [])
+    ∷ example 10 (printed (reportOf usual (oneNote 0))) (6 ∷ [])
     ∷ []

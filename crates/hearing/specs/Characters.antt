@@ -3,7 +3,7 @@
 -- After a stop bit of 0 a 1 must come before the next start; if data and parity were 0 too, D7 sets
 -- until that 1." And what on and off mean for it. Assumes nothing.
 use mathlib.Core.Path.{_≡_, refl}
-use mathlib.Core.List.{List, [], _∷_, _++_, map}
+use mathlib.Core.List.{List, [], _∷_, _++_}
 use Prim.Native.Nat.{ℕ}
 use Rattle.chip.specs.Computing.{computing}
 use Rattle.chip.specs.Event.{Event, SetLines}

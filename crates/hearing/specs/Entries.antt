@@ -3,8 +3,7 @@
 -- and D5 are latched when an entry so marked becomes the oldest, until Error Reset." Assumes
 -- nothing.
 use mathlib.Core.Path.{_≡_, refl}
-use mathlib.Core.List.{List, [], _∷_, _++_, map}
-use Prim.Native.Nat.{ℕ}
+use mathlib.Core.List.{List, [], _∷_, _++_}
 use Rattle.chip.specs.Computing.{computing}
 use Rattle.chip.specs.Event.{Event}
 use Rattle.tales.specs.Tale.{after, given, times, digits, reads, bytes}

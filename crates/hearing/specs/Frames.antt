@@ -1,7 +1,7 @@
 -- 01, Receiving, SDLC: flags, zeros dropped, the delay, ends and checks, stray bits, aborts,
 -- address search and hunt. Assumes nothing.
 use mathlib.Core.Path.{_≡_, refl}
-use mathlib.Core.List.{List, [], _∷_, _++_, map}
+use mathlib.Core.List.{List, [], _∷_, _++_}
 use Prim.Native.Nat.{ℕ}
 use Rattle.chip.specs.Computing.{computing}
 use Rattle.chip.specs.Event.{Event}

@@ -1,14 +1,16 @@
 -- 01, Note list and line: what sending a list tells, note by note and in all. Assumes nothing.
 use mathlib.Core.Bool.{Bool, true, false}
-use mathlib.Core.List.{List, [], _∷_, _++_, foldl}
-use Prim.Native.Nat.{ℕ, _+_, _-_, _*_, _/_}
+use mathlib.Core.List.{List, [], _∷_, _++_}
+use Prim.Native.Nat.{ℕ, _+_, _/_}
 use lib.Dec.{leb}
 use lib.ListN.{length}
 use lib.Seq.{sets}
 use Rattle.common.specs.Choice.{if_then_else_}
 use Rattle.common.specs.declared.Refusal.{Refusal}
-use Rattle.line.specs.Frame.{flagBits, zerosOf, ticksOf}
+use Rattle.line.specs.Frame.{zerosOf, ticksOf}
 use Rattle.line.specs.Line.{noteFits}
+use Rattle.flags.specs.declared.Between.{Between}
+use Rattle.flags.specs.Flags.{totalTicks}
 use Rattle.notes.specs.NoteList.{Reading, whole, refuses, readList}
 use Rattle.report.specs.declared.Pages.{Pages}
 use Rattle.report.specs.declared.Pages.the-variants as pages
@@ -33,29 +35,19 @@ noteTicks note = if noteFits (length note) then ticksOf note else 0
 
 -- A list
 
-abbrev pub withNote : ℕ → List ℕ → ℕ
-withNote sum note = sum + ticksOf note
-
--- "a closing flag opens the next frame": each note brings its ticks, and each but the first
--- shares a flag
-abbrev pub inAll : ℕ → ℕ → ℕ
-inAll sum notes = sum - length flagBits * (notes - 1)
-
--- "ticks in all (0 for none)"
-abbrev pub totalTicks : List (List ℕ) → ℕ
-totalTicks notes = inAll (foldl withNote 0 notes) (length notes)
-
--- the whole report: the rows, "last `end`, notes, ticks in all"; or the list's refusal alone
+-- the whole report: the rows, "last `end`, notes, ticks in all"; or the list's refusal alone. Of
+-- how notes follow each other only the ticks in all know
 pub data Report : Type 0 where
   report : (rows : List ℕ) (notes ticks : ℕ) → Report
   refusal : Refusal → Report
 
-abbrev pub reported : Reading → Report
-reported (whole notes) = report (rowsFrom 1 notes) (length notes) (totalTicks notes)
-reported (refuses k) = refusal k
+abbrev pub reported : Between → Reading → Report
+reported between (whole notes) =
+    report (rowsFrom 1 notes) (length notes) (totalTicks between notes)
+reported between (refuses k) = refusal k
 
-abbrev pub reportOf : List ℕ → Report
-reportOf list = reported (readList list)
+abbrev pub reportOf : Between → List ℕ → Report
+reportOf between list = reported between (readList list)
 
 -- What a caller has of it
 

@@ -1,9 +1,11 @@
-// What sending a list tells: the report's definitions (specs/Report.antt), and the page timer, which counts a list's ticks without a chip.
+// What sending a list tells: the report's definitions (specs/Report.antt), and the page timer, which counts a list's ticks without a chip,
+// its notes sharing their flags.
 // Assumes nothing.
 mod note;
 
 use crate::note::note_ticks;
 use common::Refusal;
+use flags::Between;
 use head::LENGTH_BYTES;
 use head::note_at;
 use notes::FIRST_NOTE;
@@ -13,7 +15,8 @@ ghost use mathlib.Core.Path.{_≡_};
 ghost use Rattle.notes.specs.NoteList.{readList, scanned};
 ghost use Rattle.notes.specs.declared.Scanned.the-variants.{Notes};
 ghost use Rattle.report.specs.declared.Pages.the-variants.{Ticks};
-ghost use Rattle.report.specs.Report.{inAll, reportOf, pagesOf};
+ghost use Rattle.flags.specs.declared.Between.the-variants.{SharedFlag};
+ghost use Rattle.report.specs.Report.{reportOf, pagesOf};
 
 // The page timer's answer: as many ticks as the list takes, or why it is refused.
 pub enum Pages {
@@ -21,27 +24,10 @@ pub enum Pages {
     Refused(Refusal),
 }
 
-// A flag's ticks.
-pub const FLAG: usize = 8;
-
-// The ticks of so many notes, one behind the other, from the sum of theirs: a closing flag opens the next frame.
-pub fn in_all(sum: usize, notes: usize) -> usize
-    ensures { λ r. ⌜ r ≡ inAll sum notes ⌝ }
-{
-    if notes == 0 {
-        return sum;
-    }
-    let shared = notes - 1;
-    if sum / FLAG < shared {
-        return 0;
-    }
-    sum - FLAG * shared
-}
-
 // The ticks of a list in which the scan found so many notes.
 fn list_ticks(list: &[u8], n: usize) -> usize
     requires { ⌜ scanned (readList (now list)) ≡ Notes n ⌝ }
-    ensures { λ r. ⌜ Ticks r ≡ pagesOf (reportOf (now (list .entry))) ⌝ }
+    ensures { λ r. ⌜ Ticks r ≡ pagesOf (reportOf SharedFlag (now (list .entry))) ⌝ }
 {
     let mut i = FIRST_NOTE;
     let mut sum: usize = 0;
@@ -52,12 +38,13 @@ fn list_ticks(list: &[u8], n: usize) -> usize
         i = i + LENGTH_BYTES + note.len();
         left = left - 1;
     }
-    in_all(sum, n)
+    let between = Between::SharedFlag;
+    between.in_all(sum, n)
 }
 
-// The page timer: as many ticks as sending the list takes.
+// The page timer: as many ticks as sending the list takes, a flag shared by two notes.
 pub fn page_ticks(list: &[u8]) -> Pages
-    ensures { λ r. ⌜ r ≡ pagesOf (reportOf (now (list .entry))) ⌝ }
+    ensures { λ r. ⌜ r ≡ pagesOf (reportOf SharedFlag (now (list .entry))) ⌝ }
 {
     let s = scan(list);
     match s {

@@ -3,8 +3,7 @@
 -- SDLC. With no mode, ticks send 1, break or not, and receive nothing." Each word by a tale, and
 -- what no word names is kept. Assumes nothing.
 use mathlib.Core.Path.{_≡_, refl}
-use mathlib.Core.List.{List, [], _∷_, _++_, map}
-use Prim.Native.Nat.{ℕ}
+use mathlib.Core.List.{List, [], _∷_, _++_}
 use Rattle.chip.specs.Computing.{computing}
 use Rattle.chip.specs.Event.{Event}
 use Rattle.tales.specs.Tale.{after, given, times, digits, reads, line}

@@ -3,7 +3,7 @@
 -- ends that channel's pending and in-service sources and unlatches external status. A hard reset is
 -- that for both, with DCD and CTS off." Each word by a tale. Assumes nothing.
 use mathlib.Core.Path.{_≡_, refl}
-use mathlib.Core.List.{List, [], _∷_, _++_, map}
+use mathlib.Core.List.{List, [], _∷_, _++_}
 use Prim.Native.Nat.{ℕ}
 use Rattle.channel.specs.declared.Answer.the-variants.{Gave}
 use Rattle.chip.specs.Computing.{computing}

@@ -1,6 +1,8 @@
 // Reads a note list from standard input, checks it, sends its notes through a chip, and prints for each its number, bytes, zeros inserted
-// and ticks; last the notes and the ticks in all. A bad list prints its refusal alone. All that matters is in the crate station.
+// and ticks; last the notes and the ticks in all. A bad list prints its refusal alone. Between two notes it sends a closing and an opening flag, and
+// with the word --shared one flag that is both. All that matters is in the crate station.
 use chip::Chip;
+use flags::Between;
 use station::Listed;
 use station::ROW;
 ghost use mathlib.Core.Path.{_≡_};
@@ -39,14 +41,29 @@ fn put(out: &mut [u8], at: usize, text: &[u8]) -> usize {
 }
 
 // A number, and the byte behind it.
-fn put_number(out: &mut [u8], at: usize, v: usize, end: &[u8]) -> usize {
+fn put_number(out: &mut [u8], at: usize, v: usize, end: u8) -> usize {
     let mut digits = [0u8; 20];
     let n = io::decimal(v as u64, &mut digits);
     let p = put(out, at, &digits[..n]);
-    put(out, p, end)
+    put_byte(out, p, end)
 }
 
-// The row at a place, as a line.
+// Four numbers, as a line.
+fn put_line(
+    out: &mut [u8],
+    at: usize,
+    number: usize,
+    bytes: usize,
+    zeros: usize,
+    ticks: usize,
+) -> usize {
+    let p = put_number(out, at, number, b' ');
+    let p = put_number(out, p, bytes, b' ');
+    let p = put_number(out, p, zeros, b' ');
+    put_number(out, p, ticks, b'\n')
+}
+
+// The row at a place.
 fn put_row(out: &mut [u8], at: usize, rows: &[usize], j: usize) -> usize {
     if rows.len() < ROW {
         return at;
@@ -54,10 +71,7 @@ fn put_row(out: &mut [u8], at: usize, rows: &[usize], j: usize) -> usize {
     if rows.len() - ROW < j {
         return at;
     }
-    let p = put_number(out, at, rows[j], b" ");
-    let p = put_number(out, p, rows[j + 1], b" ");
-    let p = put_number(out, p, rows[j + 2], b" ");
-    put_number(out, p, rows[j + 3], b"\n")
+    put_line(out, at, rows[j], rows[j + 1], rows[j + 2], rows[j + 3])
 }
 
 fn wide(x: u8) -> usize {
@@ -104,25 +118,55 @@ fn tell(out: &mut [u8], rows: &[usize], told: Listed) {
     match told {
         Listed::Refused(k) => {
             let p = put(out, 0, b"refused ");
-            let p = put_number(out, p, wide(k.number()), b"\n");
+            let p = put_number(out, p, wide(k.number()), b'\n');
             flush(out, p);
         }
         Listed::All { notes, ticks } => {
             let p = put_rows(out, rows, notes);
             let p = put(out, p, b"end ");
-            let p = put_number(out, p, notes, b" ");
-            let p = put_number(out, p, ticks, b"\n");
+            let p = put_number(out, p, notes, b' ');
+            let p = put_number(out, p, ticks, b'\n');
             flush(out, p);
         }
     }
 }
 
-fn main() {
+// A list through a reset chip.
+fn sent(list: &[u8], rows: &mut [usize], between: Between) -> Listed {
+    let s = station::send_list(Chip::reset(), list, rows, between);
+    s.listed
+}
+
+// A list is sent, and what went is told.
+fn send_and_tell(list: &[u8], rows: &mut [usize], between: Between) {
+    let told = sent(list, rows, between);
+    let mut out = io::buffer();
+    tell(&mut out, rows, told);
+}
+
+// The list that is read, its notes one behind the other by this choice.
+fn send(between: Between) {
     let mut buffer = io::large_buffer();
     let n = io::read_full(0, &mut buffer);
     let mut rows = room();
-    let s = station::send_list(Chip::reset(), &buffer[..n], &mut rows);
-    let told = s.listed;
-    let mut out = io::buffer();
-    tell(&mut out, &rows, told);
+    send_and_tell(&buffer[..n], &mut rows, between);
+}
+
+// The one word that it may be given.
+fn is_shared() -> bool {
+    let mut word = [0u8; 16];
+    let n = os::arg(1, &mut word);
+    (os::arg_count() == 2) & check::same(&word[..n], b"--shared")
+}
+
+fn main() {
+    if os::arg_count() < 2 {
+        send(Between::usual());
+        return;
+    }
+    if is_shared() {
+        send(Between::SharedFlag);
+        return;
+    }
+    io::write_all(2, b"usage: sendlist [--shared] <LIST\n");
 }

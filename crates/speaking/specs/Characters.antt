@@ -10,7 +10,6 @@ use Rattle.chip.specs.Event.{Event, SetLines}
 use Rattle.tales.specs.Tale.{after, given, times, digits, reads, line}
 use Rattle.tales.specs.Words.{set, writes, ticks, oneStop, twoStops, oddParity}
 use Rattle.tales.specs.Words.{evenParity, sendEight}
-use Rattle.tales.specs.Words.{sending}
 use Rattle.speaking.specs.Happens.{happens}
 
 -- A is set so, by WR4 and WR5, and given this byte

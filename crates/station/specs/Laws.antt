@@ -1,4 +1,4 @@
--- The station's laws: a frame fed to its end is the whole drive, and a walk over a list gives its
--- report. Assumes nothing.
-pub mod Fed
+-- The station's laws: a walk over a list gives its report, and the line of what is sent is the
+-- list's. Assumes nothing.
 pub mod Walk
+pub mod Line

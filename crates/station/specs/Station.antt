@@ -7,9 +7,8 @@ use Rattle.common.specs.Choice.{if_then_else_}
 use Rattle.common.specs.declared.Refusal.the-variants.{NoteLength}
 use Rattle.line.specs.Frame.{zerosOf, ticksOf}
 use Rattle.line.specs.Line.{noteFits}
-use Rattle.notes.specs.NoteList.{Reading, whole, refuses}
 use Rattle.chip.specs.declared.Chip.{Chip}
-use Rattle.drive.specs.Drive.{sentBy, sentAll}
+use Rattle.drive.specs.Drive.{sentBy}
 use Rattle.report.specs.Report.{rowLength, Report, report, refusal}
 use Rattle.station.specs.declared.Told.{Told}
 use Rattle.station.specs.declared.Told.the-variants as told
@@ -37,11 +36,6 @@ listedOf (refusal k) = listed.Refused k
 
 abbrev pub listSent : Listed → Chip → ListSent
 listSent l c = record { listed = l; chip = c }
-
--- each note in its turn; a refused list changes nothing
-abbrev pub chipAfter : Chip → Reading → Chip
-chipAfter c (whole notes) = sentAll c notes
-chipAfter c (refuses k) = c
 
 -- a row that is told has room
 abbrev pub Room : Bool → ℕ → List ℕ → Type 0

@@ -1,19 +1,20 @@
 // The planner's side: a station sends notes through channel A of a chip, a list note by note. Any chip is accepted, whatever its channel A was
 // doing. Assumes nothing.
 mod list;
-mod note;
 
 use crate::list::send_notes;
-use crate::note::send_fitting;
 use chip::Chip;
 use common::Refusal;
+use fitting::send_note;
+use flags::Between;
 use line::note_fits;
 use notes::Scanned;
 use notes::scan;
 ghost use mathlib.Core.Path.{_≡_};
 ghost use Rattle.notes.specs.NoteList.{readList};
 ghost use Rattle.report.specs.Report.{reportOf, rowsIn};
-ghost use Rattle.station.specs.Station.{sendOf, listSent, listedOf, chipAfter};
+ghost use Rattle.listline.specs.ListLine.{chipAfter};
+ghost use Rattle.station.specs.Station.{sendOf, listSent, listedOf};
 
 // What sending a note comes to: the zeros inserted and the ticks with both flags, or why it was not sent.
 pub enum Told {
@@ -47,7 +48,7 @@ pub fn send(c: Chip, note: &[u8]) -> Sent
     ensures { λ r. ⌜ r ≡ sendOf c (now (note .entry)) ⌝ }
 {
     if note_fits(note.len()) {
-        let w = send_fitting(c, note);
+        let w = send_note(c, note);
         let d = w.chip;
         return Sent {
             told: Told::Gone {
@@ -63,15 +64,15 @@ pub fn send(c: Chip, note: &[u8]) -> Sent
     }
 }
 
-// A list through channel A: it is checked first, then each note goes from the middle of the list, without a copy. The rows go into the
-// lent part, all of them or, where it is too short, none.
-pub fn send_list(c: Chip, list: &[u8], rows: &mut [usize]) -> ListSent
-    ensures { λ r. ⌜ r ≡ listSent (listedOf (reportOf (now (list .entry)))) (chipAfter c (readList (now (list .entry)))) ⌝ }
-    ensures { λ r. ⌜ now (rows .exit) ≡ rowsIn (now (rows .entry)) (reportOf (now (list .entry))) ⌝ }
+// A list through channel A: it is checked first, then each note goes from the middle of the list, without a copy, one behind the other by this
+// choice. The rows go into the lent part, all of them or, where it is too short, none.
+pub fn send_list(c: Chip, list: &[u8], rows: &mut [usize], between: Between) -> ListSent
+    ensures { λ r. ⌜ r ≡ listSent (listedOf (reportOf between (now (list .entry)))) (chipAfter between c (readList (now (list .entry)))) ⌝ }
+    ensures { λ r. ⌜ now (rows .exit) ≡ rowsIn (now (rows .entry)) (reportOf between (now (list .entry))) ⌝ }
 {
     let s = scan(list);
     match s {
-        Scanned::Notes(n) => send_notes(c, list, rows, n),
+        Scanned::Notes(n) => send_notes(c, list, rows, n, between),
         Scanned::Refused(k) => ListSent {
             listed: Listed::Refused(k),
             chip: c,

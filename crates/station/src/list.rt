@@ -2,19 +2,20 @@
 use crate::ListSent;
 use crate::Listed;
 use crate::ROW;
-use crate::note::send_fitting;
 use chip::Chip;
+use fitting::send_next;
+use flags::Between;
 use head::LENGTH_BYTES;
 use head::note_at;
 use notes::FIRST_NOTE;
-use report::in_all;
 ghost use mathlib.Core.Path.{_≡_};
 ghost use mathlib.Core.List.{[], _∷_};
 ghost use Prim.Native.Nat.{_<_};
 ghost use Rattle.notes.specs.NoteList.{readList, scanned};
 ghost use Rattle.notes.specs.declared.Scanned.the-variants.{Notes};
 ghost use Rattle.report.specs.Report.{reportOf, toldAt, rowsIn};
-ghost use Rattle.station.specs.Station.{listSent, listedOf, chipAfter, Room};
+ghost use Rattle.listline.specs.ListLine.{chipAfter};
+ghost use Rattle.station.specs.Station.{listSent, listedOf, Room};
 
 // A row, where rows are told.
 fn put_row(
@@ -39,10 +40,16 @@ fn put_row(
 }
 
 // Every note of a list in which the scan found so many.
-pub(crate) fn send_notes(c: Chip, list: &[u8], rows: &mut [usize], n: usize) -> ListSent
+pub(crate) fn send_notes(
+    c: Chip,
+    list: &[u8],
+    rows: &mut [usize],
+    n: usize,
+    between: Between,
+) -> ListSent
     requires { ⌜ scanned (readList (now list)) ≡ Notes n ⌝ }
-    ensures { λ r. ⌜ r ≡ listSent (listedOf (reportOf (now (list .entry)))) (chipAfter c (readList (now (list .entry)))) ⌝ }
-    ensures { λ r. ⌜ now (rows .exit) ≡ rowsIn (now (rows .entry)) (reportOf (now (list .entry))) ⌝ }
+    ensures { λ r. ⌜ r ≡ listSent (listedOf (reportOf between (now (list .entry)))) (chipAfter between c (readList (now (list .entry)))) ⌝ }
+    ensures { λ r. ⌜ now (rows .exit) ≡ rowsIn (now (rows .entry)) (reportOf between (now (list .entry))) ⌝ }
 {
     let told = n <= rows.len() / ROW;
     let mut d = c;
@@ -51,7 +58,7 @@ pub(crate) fn send_notes(c: Chip, list: &[u8], rows: &mut [usize], n: usize) -> 
     let mut sum: usize = 0;
     while notes < n {
         let note = note_at(list, i);
-        let w = send_fitting(d, note);
+        let w = send_next(d, between, notes, note);
         let m = notes + 1;
         put_row(rows, told, ROW * notes, m, note.len(), w.zeros, w.ticks);
         sum = sum + w.ticks;
@@ -62,7 +69,7 @@ pub(crate) fn send_notes(c: Chip, list: &[u8], rows: &mut [usize], n: usize) -> 
     ListSent {
         listed: Listed::All {
             notes,
-            ticks: in_all(sum, notes),
+            ticks: between.in_all(sum, notes),
         },
         chip: d,
     }

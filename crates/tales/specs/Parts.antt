@@ -1,7 +1,7 @@
 -- A channel with one part of a part changed, for the making of wrong chips: the parts that have
 -- more fields than a wrong chip wants to name. Assumes nothing.
 use mathlib.Core.Bool.{Bool}
-use mathlib.Core.List.{List, map}
+use mathlib.Core.List.{map}
 use Prim.Native.Nat.{ℕ}
 use Rattle.line.specs.declared.Insertion.{Insertion}
 use Rattle.entry.specs.declared.Entry.{Entry}
@@ -9,17 +9,13 @@ use Rattle.queue.specs.Queue.{queue}
 use Rattle.shared.specs.Shared.{shared}
 use Rattle.asynchronous.specs.declared.Character.{Character}
 use Rattle.asynchronous.specs.declared.Assembly.{Assembly}
-use Rattle.bytesync.specs.declared.BlockUnit.{BlockUnit}
 use Rattle.bytesync.specs.declared.Reception.{Reception}
 use Rattle.sdlc.specs.declared.LineUnit.{LineUnit}
 use Rattle.sdlc.specs.declared.Content.{Content}
 use Rattle.sdlc.specs.declared.Chars.{Chars}
 use Rattle.sdlc.specs.Hearing.{content}
-use Rattle.sender.specs.declared.Sender.{Sender}
 use Rattle.sender.specs.Sender.{sender, withShared}
-use Rattle.receiver.specs.declared.Receiver.{Receiver}
 use Rattle.receiver.specs.Receiver.{receiver}
-use Rattle.status.specs.declared.Live.{Live}
 use Rattle.status.specs.Status.{status}
 use Rattle.settings.specs.Settings.{store1, store3, store4, store5, store6}
 use Rattle.channel.specs.declared.Channel.{Channel}
@@ -58,11 +54,6 @@ abbrev pub withCharacter : Channel → Character → Channel
 withCharacter c k =
     let s = c .sender in
     withSender c (sender (s .unit) (s .insertion) k (s .block) (s .shared))
-
-abbrev pub withBlock : Channel → BlockUnit → Channel
-withBlock c b =
-    let s = c .sender in
-    withSender c (sender (s .unit) (s .insertion) (s .character) b (s .shared))
 
 abbrev pub withBuffer : Channel → ℕ → Bool → Channel
 withBuffer c v f =

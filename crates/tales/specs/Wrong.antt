@@ -6,7 +6,6 @@ use Rattle.channel.specs.declared.Answer.{Answer}
 use Rattle.channel.specs.declared.Channel.{Channel}
 use Rattle.channel.specs.Channel.{withRegisters}
 use Rattle.chip.specs.declared.Chip.{Chip}
-use Rattle.chip.specs.declared.Outcome.{Outcome}
 use Rattle.chip.specs.Interrupts.{chip}
 use Rattle.chip.specs.Chip.{outcome}
 use Rattle.chip.specs.Event.{Event, step}
@@ -16,9 +15,6 @@ use Rattle.tales.specs.Kind.{isTick, isBit}
 -- behind each event A is changed: by what it was, the event, and what it is
 abbrev pub butA : (Channel → Event → Channel → Channel) → Happens
 butA f c e = let o = step c e in outcome (o .answer) (chip (f (c .a) e (o .chip .a)) (o .chip .b))
-
-abbrev pub butB : (Channel → Event → Channel → Channel) → Happens
-butB f c e = let o = step c e in outcome (o .answer) (chip (o .chip .a) (f (c .b) e (o .chip .b)))
 
 -- behind each event the chip is changed
 abbrev pub but : (Chip → Event → Chip → Chip) → Happens

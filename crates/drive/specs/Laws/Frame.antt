@@ -18,7 +18,8 @@ use Rattle.sdlc.specs.declared.LineUnit.the-variants.{Mark, Flag, Byte, Check, 
 use Rattle.sdlc.specs.declared.Framer.{Framer}
 use Rattle.sdlc.specs.declared.Framed.{Framed}
 use Rattle.sdlc.specs.Sending.{notCounted, framer, framed, tickSdlc}
-use Rattle.sdlc.specs.Laws.Tick.{tick-flag, tick-abort, tick-chooses, next-mark, next-abort}
+use Rattle.sdlc.specs.Laws.Tick.{tick-flag, tick-abort, tick-chooses}
+use Rattle.sdlc.specs.Laws.Tick.{next-mark, next-abort, next-flag-empty}
 use Rattle.whole.specs.Come.{good, flagTail, toCome}
 use Rattle.whole.specs.Stage.{Stage}
 use Rattle.whole.specs.Start.{frameEnded}
@@ -31,7 +32,6 @@ use Rattle.feed.specs.Feeding.{afterTicks, ticksLine, behindFlag}
 use Rattle.feed.specs.Laws.Feeding.{ends}
 use Rattle.drive.specs.Drive.{betweenFrames, writeA, tickA, bitA, offer, driven, drivenLine}
 use Rattle.drive.specs.Drive.{prepared, ticksToFlag, flagEnded, frameOpened, ticksLeft}
-use Rattle.drive.specs.Drive.{sentBy, sentAll}
 use Rattle.drive.specs.Framer.{chipWith}
 use Rattle.drive.specs.Laws.Calls.{Stands, stands-as, tick-stands, bit-stands, write-stands}
 use Rattle.drive.specs.Laws.Calls.{preset-stands, clear-stands, prepared-well}
@@ -89,6 +89,13 @@ module _ (k : Shared) where
   mark-ends : (c : Chip) → Stands c (still Mark) → RunsTo 8 c flagBits (behindFlag k)
   mark-ends c h =
       runs-on h (tick-chooses good 0 k Mark refl ∙ next-mark good 0 k refl) (flag-ends 7 (tickA c))
+
+  -- while no byte waits a flag follows a flag
+  pub flag-again : (c : Chip) → Stands c (behindFlag k) → k .full ≡ false
+      → RunsTo 8 c flagBits (behindFlag k)
+  flag-again c h e =
+      runs-on h (tick-chooses good 0 k (Flag 0) refl ∙ next-flag-empty good 0 k refl 0 e)
+      (flag-ends 7 (tickA c))
 
   abort-ends : (n : ℕ) (c : Chip) → Stands c (still (Abort n))
       → RunsTo (n + 8) c (replicate n true ++ flagBits) (behindFlag k)
@@ -180,20 +187,24 @@ pub record Drives (n : ℕ) (c : Chip) (rest : List ℕ) (bits : List Bool) : Ty
   pub stands : Stands (driven n c rest) last
   pub ended : frameEnded last ≡ true
 
+pub sent-stands : (c : Chip) (v n : ℕ) (vs : List ℕ)
+    → Stands (driven n (frameOpened c v) vs) (afterTicks n (beginning v) vs)
+sent-stands c v n vs =
+    let h = begins c v in
+    subst (λ (d : Chip). Stands d (afterTicks n (beginning v) vs)) (sym (driven-frame c v n vs))
+    (record { pointer = h .pointer; good = h .good; sends = refl })
+
 -- Demand 3 at work: whatever the chip was, the note's frame goes out behind the flag, and the next
 -- note may follow in the closing one
 pub sends : (c : Chip) (v : ℕ) (vs : List ℕ)
     → Drives (ticksLeft (v ∷ vs)) (frameOpened c v) vs (toCome (beginning v) vs)
 sends c v vs =
     let n = ticksLeft (v ∷ vs) in
-    let last = afterTicks n (beginning v) vs in
     let e = ends n vs (frame-stage v vs) (come-length v vs) in
-    let h = begins c v in
     record {
       line = driven-line c v n vs ∙ e .line;
-      last = last;
-      stands = subst (λ (d : Chip). Stands d last) (sym (driven-frame c v n vs))
-          (record { pointer = h .pointer; good = h .good; sends = refl });
+      last = afterTicks n (beginning v) vs;
+      stands = sent-stands c v n vs;
       ended = e .ended;
     }
 
@@ -201,8 +212,3 @@ pub frame-sent : (c : Chip) (v : ℕ) (vs : List ℕ)
     → flagBits ++ drivenLine (ticksLeft (v ∷ vs)) (frameOpened c v) vs ≡ frame (v ∷ vs)
 frame-sent c v vs =
     ap (λ (x : List Bool). flagBits ++ x) (sends c v vs .line) ∙ frame-begins v vs
-
--- of two notes the second is sent by the chip that has sent the first
-pub sent-second : (c : Chip) (first second : List ℕ)
-    → sentAll c (first ∷ second ∷ []) ≡ sentBy (sentBy c first) second
-sent-second c first second = refl

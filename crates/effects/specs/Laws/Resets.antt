@@ -4,7 +4,7 @@ use mathlib.Core.Path.{_≡_, refl}
 use mathlib.Core.Bool.{false}
 use Prim.Native.Nat.{ℕ}
 use Rattle.settings.specs.declared.Lines.{Lines}
-use Rattle.settings.specs.Settings.{commandIn, modeOf, sendingOf, receivingOf}
+use Rattle.settings.specs.Settings.{commandIn, modeOf, sendingOf}
 use Rattle.queue.specs.Queue as queues
 use Rattle.channel.specs.declared.Channel.{Channel}
 use Rattle.channel.specs.declared.Side.{Side}

@@ -13,7 +13,9 @@ use Rattle.notes.specs.Laws.Reading.{scanned-rest, scanned-size}
 use Rattle.line.specs.Frame.{ticksOf}
 use Rattle.report.specs.declared.Pages.{Pages}
 use Rattle.report.specs.declared.Pages.the-variants.{Ticks, Refused}
-use Rattle.report.specs.Report.{noteTicks, withNote, inAll, reportOf, pagesOf}
+use Rattle.flags.specs.declared.Between.the-variants.{SharedFlag}
+use Rattle.flags.specs.Flags.{withNote, inAll}
+use Rattle.report.specs.Report.{noteTicks, reportOf, pagesOf}
 use Rattle.report.specs.Laws.Notes.{next-note, walk-next, walk-last}
 use Rattle.report.specs.Laws.Ticks.{ticks-few, noteTicks-fits, pages-walk}
 use borrow.Author.Needs.{needs}
@@ -22,7 +24,7 @@ use Rattle.report.proofs.list_ticks.Tie as tie
 
 abbrev Inv-loop : tie.InvT-loop
 Inv-loop list n i₀ sum₀ left₀ i sum left =
-    (walk withNote (λ s. Ticks (inAll s n)) Refused sum (restFrom list i) ≡ pagesOf (reportOf list))
+    (walk withNote (λ s. Ticks (inAll SharedFlag s n)) Refused sum (restFrom list i) ≡ pagesOf (reportOf SharedFlag list))
     × ((scanned (restFrom list i) ≡ Notes left) × ((i ≤ length list + 1) × (sum ≤ 19696 * i)))
 
 abbrev μ-loop : tie.MeasureT-loop
@@ -33,7 +35,7 @@ loop-holds c =
     let n = c .before .args .n in
     let list = now (c .before .args .list) in
     let e = sym (scanned-rest list n (c .before .pre)) in (
-      ap (walk withNote (λ s. Ticks (inAll s n)) Refused 0) e ∙ pages-walk n (readList list) (c .before .pre),
+      ap (walk withNote (λ s. Ticks (inAll SharedFlag s n)) Refused 0) e ∙ pages-walk SharedFlag n (readList list) (c .before .pre),
       (ap scanned e ∙ c .before .pre, (omega arith, omega arith)),
     )
 
@@ -87,7 +89,7 @@ loop-again c =
     let size = scanned-size list (s .args .n) (s .pre) in
     let n = s .args .n in
     let i = l .i in
-    let finish : ℕ → Pages = λ sum. Ticks (inAll sum n) in
+    let finish : ℕ → Pages = λ sum. Ticks (inAll SharedFlag sum n) in
     let at = ap (λ (t : List ℕ). i + 2 + length t) text in (
       ap (λ (k : ℕ). walk withNote finish Refused (l .sum + k) (restFrom list (i + 2 + length (now (c .before .note-at .result))))) ticks
           ∙ ap (λ (k : ℕ). walk withNote finish Refused (l .sum + ticksOf (noteAt list i)) (restFrom list k)) at
@@ -107,7 +109,7 @@ returns c =
     let l = c .before .before .loop in
     let n = s .args .n in
     ap Ticks (c .in-all .ensures)
-    ∙ sym (walk-last withNote (λ s. Ticks (inAll s n)) Refused (l .sum) (now (s .args .list)) (l .i) (l .left) (c .before .loop-test .left) (l .inv .1 .0))
+    ∙ sym (walk-last withNote (λ s. Ticks (inAll SharedFlag s n)) Refused (l .sum) (now (s .args .list)) (l .i) (l .left) (c .before .loop-test .left) (l .inv .1 .0))
     ∙ l .inv .0
 
 pub list-ticks-spec : {M : Type 1} → statement M

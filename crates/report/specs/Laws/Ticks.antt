@@ -17,10 +17,12 @@ use Rattle.line.specs.Frame.{zerosOf, ticksOf}
 use Rattle.line.specs.Line.{noteFits}
 use Rattle.zeros.specs.Zeros.{countOf}
 use Rattle.line.specs.Laws.Frame.{ticks-are, zeros-few}
+use Rattle.flags.specs.declared.Between.{Between}
+use Rattle.flags.specs.Flags.{withNote, inAll}
 use Rattle.notes.specs.declared.Scanned.the-variants.{Notes}
 use Rattle.notes.specs.NoteList.{Reading, whole, refuses, scanned, walk}
 use Rattle.report.specs.declared.Pages.the-variants as pages
-use Rattle.report.specs.Report.{noteTicks, withNote, inAll, reported, pagesOf}
+use Rattle.report.specs.Report.{noteTicks, reported, pagesOf}
 
 -- A note that fits
 
@@ -62,9 +64,10 @@ counts-none note k e =
 
 -- A walk that adds
 
-pub pages-walk : (n : ℕ) (r : Reading) → scanned r ≡ Notes n
-    → walk withNote (λ sum. pages.Ticks (inAll sum n)) pages.Refused 0 r ≡ pagesOf (reported r)
-pages-walk n (whole notes) e =
+pub pages-walk : (between : Between) (n : ℕ) (r : Reading) → scanned r ≡ Notes n
+    → walk withNote (λ sum. pages.Ticks (inAll between sum n)) pages.Refused 0 r
+    ≡ pagesOf (reported between r)
+pages-walk between n (whole notes) e =
     let m : n ≡ length notes = cc in
-    ap (λ (k : ℕ). pages.Ticks (inAll (foldl withNote 0 notes) k)) m
-pages-walk n (refuses k) e = refl
+    ap (λ (k : ℕ). pages.Ticks (inAll between (foldl withNote 0 notes) k)) m
+pages-walk between n (refuses k) e = refl

@@ -1,10 +1,7 @@
 -- `station::send_list` meets its contract. Assumes nothing.
-use mathlib.Core.Path.{_≡_, refl, sym, ap, _∙_}
+use mathlib.Core.Path.{refl, sym, _∙_}
 use denote.Ref.{now}
-use Rattle.notes.specs.NoteList.{readList}
 use Rattle.notes.specs.Laws.Reading.{scanned-refuses}
-use Rattle.report.specs.Report.{reported, rowsIn}
-use Rattle.station.specs.Station.{listSent, listedOf, chipAfter}
 use borrow.Author.Needs.{needs}
 use Rattle.station.proofs.send_list.Statement.{statement}
 use Rattle.station.proofs.send_list.Tie as tie

@@ -7,18 +7,18 @@ use Prim.Native.Nat.{ℕ, _+_, _-_, _*_, _/_, _≤_}
 use native.Mathlib.Omega.{arith}
 use lib.ListN.{length}
 use denote.Ref.{now}
-use Rattle.line.specs.Frame.{zerosOf, ticksOf}
-use Rattle.line.specs.Line.{noteFits}
 use Rattle.notes.specs.declared.Scanned.the-variants.{Notes}
 use Rattle.notes.specs.NoteList.{restFrom, readList, scanned, walk}
 use Rattle.head.specs.NoteHead.{noteAt}
 use Rattle.notes.specs.Laws.Reading.{scanned-rest, scanned-size}
-use Rattle.drive.specs.Drive.{sentBy}
+use Rattle.fitting.specs.declared.Went.{Went}
+use Rattle.fitting.specs.Went.{went-as}
 use Rattle.report.specs.Report.{rowOf, hasRoom, reportOf, rowsIn}
 use Rattle.report.specs.Laws.Notes.{next-note, walk-next, walk-last}
 use Rattle.report.specs.Laws.Ticks.{fits-bounds, ticks-few}
 use Rattle.station.specs.declared.Listed.the-variants as listed
-use Rattle.station.specs.Station.{listSent, listedOf, chipAfter}
+use Rattle.listline.specs.ListLine.{beforeNote, chipAfter}
+use Rattle.station.specs.Station.{listSent, listedOf}
 use Rattle.station.specs.Laws.Walk.{Walked, walked, oneSent, WalkedList, walkedList, allSent, noneSent}
 use Rattle.station.specs.Laws.Walk.{sent-walk, room-for, toldAt-length, one-sent}
 use borrow.Author.Needs.{needs}
@@ -26,14 +26,14 @@ use Rattle.station.proofs.list.send_notes.Statement.{statement}
 use Rattle.station.proofs.list.send_notes.Tie as tie
 
 abbrev Inv-loop : tie.InvT-loop
-Inv-loop list rows₀ n told d₀ i₀ notes₀ sum₀ rows d i notes sum =
-    (walk (oneSent told) allSent (noneSent d₀ rows₀) (walked d notes sum rows) (restFrom list i)
-    ≡ walkedList (listedOf (reportOf list)) (chipAfter d₀ (readList list)) (rowsIn rows₀ (reportOf list)))
+Inv-loop list rows₀ n between told d₀ i₀ notes₀ sum₀ rows d i notes sum =
+    (walk (oneSent between told) (allSent between) (noneSent d₀ rows₀) (walked d notes sum rows) (restFrom list i)
+    ≡ walkedList (listedOf (reportOf between list)) (chipAfter between d₀ (readList list)) (rowsIn rows₀ (reportOf between list)))
     × ((scanned (restFrom list i) ≡ Notes (n - notes)) × ((length rows ≡ length rows₀)
     × ((notes ≤ n) × ((3 * notes + 1 ≤ i) × ((i ≤ length list + 1) × (sum ≤ 19696 * notes))))))
 
 abbrev μ-loop : tie.MeasureT-loop
-μ-loop list rows₀ n told d₀ i₀ notes₀ sum₀ rows d i notes sum = n - notes
+μ-loop list rows₀ n between told d₀ i₀ notes₀ sum₀ rows d i notes sum = n - notes
 
 loop-holds : tie.Need-loop-holds Inv-loop μ-loop
 loop-holds c =
@@ -43,23 +43,16 @@ loop-holds c =
     let rows = now (s .args .rows) in
     let e = sym (scanned-rest list n (s .pre)) in
     let none : n ≡ n - 0 = omega arith in (
-      ap (walk (oneSent (hasRoom n rows)) allSent (noneSent (s .args .c) rows) (walked (s .args .c) 0 0 rows)) e
-          ∙ sent-walk (s .args .c) rows n (readList list) (s .pre),
+      ap (walk (oneSent (s .args .between) (hasRoom n rows)) (allSent (s .args .between)) (noneSent (s .args .c) rows) (walked (s .args .c) 0 0 rows)) e
+          ∙ sent-walk (s .args .between) (s .args .c) rows n (readList list) (s .pre),
       (ap scanned e ∙ s .pre ∙ ap Notes none, (refl, (omega arith, (omega arith, (omega arith, omega arith))))),
     )
 
 note-at-requires : tie.Need-note-at-requires Inv-loop μ-loop
 note-at-requires c κs = search needs
 
-send-fitting-requires : tie.Need-send-fitting-requires Inv-loop μ-loop
-send-fitting-requires c κs =
-    let s = c .before .before .before .before .before in
-    let l = c .before .before .loop in
-    let list = now (s .args .list) in
-    let more = c .before .loop-test .taken in
-    let x = next-note list (l .i) (s .args .n - l .notes) (omega (arith, more)) (l .inv .1 .0) in
-    let size = scanned-size list (s .args .n) (s .pre) in
-    ap (λ (t : List ℕ). noteFits (length t)) (c .note-at .ensures) ∙ x .fits
+send-next-requires : tie.Need-send-next-requires Inv-loop μ-loop
+send-next-requires c κs = search needs
 
 add-m : tie.Need-add-m Inv-loop μ-loop
 add-m c =
@@ -102,8 +95,9 @@ add-sum c =
     let x = next-note list (l .i) (s .args .n - l .notes) (omega (arith, more)) (l .inv .1 .0) in
     let size = scanned-size list (s .args .n) (s .pre) in
     let text = c .before .before .before .before .before .before .note-at .ensures in
-    let w = c .before .before .before .before .before .send-fitting in
-    let ticks = w .ensures .1 .0 ∙ ap (λ (t : List ℕ). ticksOf t) text in
+    let before = beforeNote (s .args .between) (l .notes) (l .d) in
+    let w = went-as before (noteAt list (l .i)) (x .fits) (c .before .before .before .before .before .send-next .ensures) text in
+    let ticks = ap (λ (y : Went). y .ticks) w in
     let few = ticks-few (noteAt list (l .i)) (x .fits) in
     omega (arith, ticks, few, l .inv .1 .1 .1 .1 .0, l .inv .1 .1 .1 .1 .1 .0, l .inv .1 .1 .1 .1 .1 .1, size)
 
@@ -139,8 +133,9 @@ loop-again c =
     let x = next-note list (l .i) (s .args .n - l .notes) (omega (arith, more)) (l .inv .1 .0) in
     let size = scanned-size list (s .args .n) (s .pre) in
     let text = c .before .before .before .before .before .before .before .note-at .ensures in
-    let w = c .before .before .before .before .before .before .send-fitting in
-    let ticks = w .ensures .1 .0 ∙ ap (λ (t : List ℕ). ticksOf t) text in
+    let before = beforeNote (s .args .between) (l .notes) (l .d) in
+    let w = went-as before (noteAt list (l .i)) (x .fits) (c .before .before .before .before .before .before .send-next .ensures) text in
+    let ticks = ap (λ (y : Went). y .ticks) w in
     let few = ticks-few (noteAt list (l .i)) (x .fits) in
     let rows = now (s .args .rows) in
     let told = hasRoom (s .args .n) rows in
@@ -148,14 +143,14 @@ loop-again c =
     let note = noteAt list i in
     let was = walked (l .d) (l .notes) (l .sum) (l .rows) in
     let one =
-    one-sent told was note (ap length text) (w .ensures .0 ∙ ap (λ (t : List ℕ). zerosOf t) text) ticks
-    (w .ensures .1 .1 ∙ ap (λ (t : List ℕ). sentBy (l .d) t) text) (c .before .before .before .before .put-row .ensures) in
+    one-sent (s .args .between) told was note (ap length text) (ap (λ (y : Went). y .zeros) w) ticks
+    (ap (λ (y : Went). y .chip) w) (c .before .before .before .before .put-row .ensures) in
     let at = ap (λ (t : List ℕ). i + 2 + length t) text in
-    let finish = walk (oneSent told) allSent (noneSent (s .args .c) rows) in
+    let finish = walk (oneSent (s .args .between) told) (allSent (s .args .between)) (noneSent (s .args .c) rows) in
     let less : s .args .n - l .notes - 1 ≡ s .args .n - (l .notes + 1) = omega arith in (
       ap (λ (y : Walked). finish y (restFrom list (i + 2 + length (now (c .before .before .before .before .before .before .before .note-at .result))))) one
-          ∙ ap (λ (k : ℕ). finish (oneSent told was note) (restFrom list k)) at
-          ∙ sym (walk-next (oneSent told) allSent (noneSent (s .args .c) rows) was list i (s .args .n - l .notes - 1) x)
+          ∙ ap (λ (k : ℕ). finish (oneSent (s .args .between) told was note) (restFrom list k)) at
+          ∙ sym (walk-next (oneSent (s .args .between) told) (allSent (s .args .between)) (noneSent (s .args .c) rows) was list i (s .args .n - l .notes - 1) x)
           ∙ l .inv .0,
       (
         ap (λ (k : ℕ). scanned (restFrom list k)) at ∙ x .rest ∙ ap Notes less,
@@ -188,7 +183,7 @@ returns c =
     let none : s .args .n - l .notes ≤ 0 = omega (arith, c .before .loop-test .left) in
     let was = walked (l .d) (l .notes) (l .sum) (l .rows) in
     let e =
-    sym (walk-last (oneSent (hasRoom (s .args .n) rows)) allSent (noneSent (s .args .c) rows) was list (l .i) (s .args .n - l .notes) none (l .inv .1 .0))
+    sym (walk-last (oneSent (s .args .between) (hasRoom (s .args .n) rows)) (allSent (s .args .between)) (noneSent (s .args .c) rows) was list (l .i) (s .args .n - l .notes) none (l .inv .1 .0))
     ∙ l .inv .0 in (
       ap (λ (k : ℕ). listSent (listed.All (l .notes) k) (l .d)) (c .in-all .ensures)
           ∙ ap (λ (y : WalkedList). listSent (y .answer) (y .chip)) e,
@@ -203,7 +198,7 @@ send-notes-spec =
     μ-loop
     loop-holds
     note-at-requires
-    send-fitting-requires
+    send-next-requires
     add-m
     mul-put-row
     put-row-requires

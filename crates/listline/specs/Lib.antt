@@ -1,0 +1,2 @@
+pub mod ListLine
+pub mod Laws
