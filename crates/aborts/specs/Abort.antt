@@ -13,7 +13,6 @@ use Rattle.chip.specs.Event.{Event, ControlWrite}
 use Rattle.whole.specs.Heard.{Final, hearAll, flagFree, lead, endMarks}
 use Rattle.whole.specs.Laws.Heard.{hear-join}
 use Rattle.whole.specs.Laws.Deaf.{end-marks-join}
-use Rattle.receiver.specs.declared.Receiving.{Receiving}
 use Rattle.stories.specs.Story.{Which, number, chan, happens, after}
 use Rattle.stories.specs.Sent.{lineOf, ticks}
 use Rattle.stories.specs.Received.{bitsOf}
@@ -92,7 +91,7 @@ heard-few u r qs rs first bits l b d =
     i .0 .listener ∙ ap (λ (z : List Bool). hearAll g (x .listener) z .listener) b in
     let same : endMarks (hearAll (y .settings .addressing) (y .listener) (bitsOf u rs) .got)
     ≡ endMarks (hearAll g (hearAll g (x .listener) first .listener) bits .got) =
-    ap (λ (z : Receiving). endMarks (hearAll (z .addressing) (y .listener) (bitsOf u rs) .got)) (i .0 .settings)
+    ap (λ (z : receiving.Heeded). endMarks (hearAll (z .addressing) (y .listener) (bitsOf u rs) .got)) (i .0 .settings)
     ∙ ap₂ (λ (z : Listener) (t : List Bool). endMarks (hearAll g z t .got)) there d in
     omega (arith, told-few u (i .1) hearing, same)
 

@@ -6,8 +6,10 @@ use Prim.Native.Nat.{ℕ, zero, suc}
 use lib.ListN.{take, replicate}
 use lib.Seq.{take-at}
 use Rattle.common.specs.Tools.{void}
+use Rattle.common.specs.declared.Mode.the-variants.{Sdlc}
 use Rattle.line.specs.Check.{ones}
 use Rattle.line.specs.Frame.{flagBits, frame}
+use Rattle.shared.specs.Preset.{presetFor}
 use Rattle.shared.specs.Shared.{shared}
 use Rattle.sdlc.specs.declared.LineUnit.the-variants.{Flag, Abort}
 use Rattle.sdlc.specs.declared.Framer.{Framer}
@@ -15,15 +17,16 @@ use Rattle.sdlc.specs.declared.Framed.{Framed}
 use Rattle.sdlc.specs.Sending.{insertion, notCounted, framer, sentBit, tickSdlc}
 use Rattle.sdlc.specs.Laws.Tick.{tick-abort, tick-chooses, next-abort}
 use Rattle.sender.specs.Sender.{framerOf, checkPreset, latchCleared}
+use Rattle.settings.specs.Settings.{modeIn}
 use Rattle.chip.specs.declared.Chip.{Chip}
 use Rattle.chip.specs.Event.{Event, ControlWrite, DataWrite, Transmit}
 use Rattle.whole.specs.Come as come
 use Rattle.whole.specs.Start.{frameEnded}
 use Rattle.stories.specs.Story.{Which, number, chan, happens, after}
 use Rattle.stories.specs.Sent.{ticksBy, lineOf, ticks}
-use Rattle.history.specs.Sending.Side.{heeded, good, SenderSide, side, sendingIn, sideOf}
+use Rattle.history.specs.Sending.Side.{heeded, good, good-of, SenderSide, side, sendingIn, sideOf}
 use Rattle.history.specs.Sending.Events.{tickedOf, tick-side, tick-bit, skip-line, write-side, write-no-tick, line-length}
-use Rattle.sending.specs.Chain.{write-preset, write-clear}
+use Rattle.sending.specs.Chain.{mode-in, write-preset, write-clear}
 use Rattle.hosts.specs.Loaded.{senderOf, loaded, onMore, passed, flags, closed, Host, rests, still}
 use Rattle.hosts.specs.Loaded.{writes, ticking, byteIf}
 use Rattle.hosts.specs.Steps.{ahead, opening}
@@ -152,9 +155,14 @@ after-abort w c p xs ys v k q h =
     let o = every-host w c p xs (k .start) (k .host) in
     let a = cut w c p xs v k in
     let was = chan w d .sender in
-    let s : chan w n .sender ≡ latchCleared (checkPreset was) = y .sender ∙ ap latchCleared (x .sender) in
+    let mode : modeIn (chan w d .registers) ≡ Sdlc =
+    mode-in (chan w d) (good-of (sendingIn (chan w d)) (a .2 ∙ o .heeds)) in
+    let preset = checkPreset (modeIn (chan w d .registers)) was in
+    let s : chan w n .sender ≡ latchCleared preset = y .sender ∙ ap latchCleared (x .sender) in
     let g : heeded (sendingIn (chan w n)) ≡ good = ap heeded (y .settings ∙ x .settings) ∙ a .2 ∙ o .heeds in
-    let set : framerOf (latchCleared (checkPreset was)) ≡ cutOff 8 (was .insertion .run) (was .shared .buffer) (was .shared .full) =
-    λ i. framer (a .0 i) (insertion (was .insertion .run) (a .1 i)) (shared (was .shared .buffer) (was .shared .full) false ones) in
+    let set : framerOf (latchCleared preset)
+    ≡ cutOff 8 (was .insertion .run) (was .shared .buffer) (was .shared .full) =
+    λ i. framer (a .0 i) (insertion (was .insertion .run) (a .1 i))
+    (shared (was .shared .buffer) (was .shared .full) false (presetFor (mode i))) in
     followed w n 8 (was .insertion .run) (was .shared .buffer) (was .shared .full) ys
     (λ i. side ((ap framerOf s ∙ set) i) (g i)) h
