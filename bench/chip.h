@@ -1,13 +1,13 @@
-/* The chip of document 01 in plain C, for the benchmarks alone: a chip behind a pointer, changed in place. Included, so that a program is one
+/* The chip of documents 01 and 02 in plain C, for the benchmarks alone: a chip behind a pointer, changed in place. Included, so that a program is one
    module for the compiler, as a Rattle program is. bench/run holds it against the product, event by event, before it measures anything. */
 typedef unsigned char u8;
 typedef unsigned short u16;
 typedef unsigned long size;
 
-enum mode { NO_MODE, ASYNCHRONOUS, SDLC };
-enum unit { MARK, FLAG, BYTE, CHECK, ABORT, CHARACTER };
+enum mode { NO_MODE, ASYNCHRONOUS, MONOSYNC, BISYNC, SDLC };
+enum unit { MARK, FLAG, BYTE, CHECK, ABORT, CHARACTER, SYNC };
 enum { DCD = 8, HUNT = 16, CTS = 32, UNDERRUN = 64, BROKEN = 128 };       /* RR0's five latched bits */
-enum { REFUSED = 256, PRESET = 0xFFFF, POLYNOMIAL = 0x1021, GOOD = 0x1D0F, QUEUE = 3 };
+enum { REFUSED = 256, PRESET = 0xFFFF, POLYNOMIAL = 0x1021, CRC_16 = 0x8005, GOOD = 0x1D0F, QUEUE = 3 };
 
 struct entry { u8 byte, parity, overrun, framing, ends, bad; };
 
@@ -19,6 +19,8 @@ struct channel {
     u16 rest, send_check;
     u8 skip, ones, delay, count, part, have, held;               /* receiver, SDLC; the delay lies under a leading one */
     u16 receive_check;
+    u8 leading, turn;                                                     /* receiver, Monosync and Bisync; the last bits, the newest highest */
+    u16 seen;
     u8 wait, to_come, bits, weight, odd, blank, parity, even;             /* receiver, asynchronous */
     u8 waiting, parity_latch, overrun_latch;                              /* queue */
     struct entry queue[QUEUE];
@@ -26,8 +28,31 @@ struct channel {
 
 struct chip { struct channel ch[2]; };
 
+static u16 step_over(u16 polynomial, u16 check, int bit) {
+    return (u16)(check << 1) ^ ((check >> 15) != bit ? polynomial : 0);
+}
+
 static u16 check_step(u16 check, int bit) {
-    return (u16)(check << 1) ^ ((check >> 15) != bit ? POLYNOMIAL : 0);
+    return step_over(POLYNOMIAL, check, bit);
+}
+
+/* A byte of Monosync or Bisync enters a check. */
+static u16 entered(const struct channel *c, u16 check, u8 v) {
+    u16 polynomial = c->wr[5] & 4 ? CRC_16 : POLYNOMIAL;
+    for (int k = 0; k < 8; k++) check = step_over(polynomial, check, v >> k & 1);
+    return check;
+}
+
+static int in_blocks(const struct channel *c) {
+    return c->mode == MONOSYNC || c->mode == BISYNC;
+}
+
+static int hunts(enum mode mode) {
+    return mode == MONOSYNC || mode == BISYNC || mode == SDLC;
+}
+
+static u16 sync_pair(const struct channel *c) {
+    return c->wr[6] | c->wr[7] << 8;
 }
 
 /* Status: any change of the five bits latches them, but D6 falling. */
@@ -103,16 +128,55 @@ static int sdlc_bit(struct channel *c) {
     return bit;
 }
 
+static void next_block_unit(struct channel *c) {
+    int ended = c->unit == BYTE;
+    if (!sender_on(c)) {
+        start(c, MARK, 1, 1);
+    } else if (c->unit != MARK && c->full) {
+        u8 v = load(c);
+        if (c->wr[5] & 1) c->send_check = entered(c, c->send_check, v);
+        start(c, BYTE, 8, v);
+    } else {
+        if (ended && !(c->live & UNDERRUN) && c->wr[5] & 1) start(c, CHECK, 16, c->send_check);
+        else if (c->mode == BISYNC) start(c, SYNC, 16, sync_pair(c));
+        else start(c, SYNC, 8, c->wr[6]);
+        if (ended) show(c, c->live | UNDERRUN);
+    }
+}
+
+static int block_bit(struct channel *c) {
+    int bit;
+    if (c->left == 0) next_block_unit(c);
+    c->left--;
+    if (c->unit == CHECK) {
+        bit = c->rest >> 15;
+        c->rest <<= 1;
+    } else {
+        bit = c->rest & 1;
+        c->rest >>= 1;
+    }
+    return bit;
+}
+
 static u8 length(int field) {
     static const u8 lengths[4] = {5, 7, 6, 8};
     return lengths[field & 3];
 }
 
+/* How many low bits of a byte go out; with length 00 its shape says it. */
+static u8 count_sent(const struct channel *c, u8 v) {
+    if (c->wr[5] & 0x60) return length(c->wr[5] >> 5);
+    if ((v & 0xFE) == 0xF0) return 1;
+    if ((v & 0xFC) == 0xE0) return 2;
+    if ((v & 0xF8) == 0xC0) return 3;
+    return (v & 0xF0) == 0x80 ? 4 : 5;
+}
+
 static int asynchronous_bit(struct channel *c) {
     if (c->left == 0) {
         if (!sender_on(c) || !c->full) return 1;
-        u8 n = length(c->wr[5] >> 5), stops = (c->wr[4] & 0x0C) == 0x0C ? 2 : 1, at = n + 1;
-        u16 rest = (u16)((load(c) & ((1 << n) - 1)) << 1);
+        u8 v = load(c), n = count_sent(c, v), stops = (c->wr[4] & 0x0C) == 0x0C ? 2 : 1, at = n + 1;
+        u16 rest = (u16)((v & ((1 << n) - 1)) << 1);
         if (c->wr[4] & 1) {
             int odd = !(c->wr[4] & 2);
             for (int k = 1; k <= n; k++) odd ^= rest >> k & 1;
@@ -162,6 +226,7 @@ static void drop_frame(struct channel *c) {
 static void restart(struct channel *c) {
     drop_frame(c);
     c->skip = c->ones = c->wait = c->to_come = 0;
+    c->seen = c->leading = c->turn = 0;
 }
 
 static int listens(const struct channel *c) {
@@ -221,6 +286,29 @@ static void sdlc_receive(struct channel *c, int bit) {
     }
     if (listens(c) && ones != 5) content(c, 0);
     if (c->live & BROKEN) show(c, c->live & ~BROKEN);
+}
+
+static void block_receive(struct channel *c, int bit) {
+    int two = c->mode == BISYNC;
+    c->seen = c->seen >> 1 | bit << 15;
+    if (c->live & HUNT) {
+        if (c->count < 16) c->count++;
+        if (two ? c->count == 16 && c->seen == sync_pair(c) : c->count >= 8 && c->seen >> 8 == c->wr[7]) {
+            c->count = c->have = c->turn = 0;
+            c->leading = 1;
+            show(c, c->live & ~HUNT);
+        }
+        return;
+    }
+    if (++c->count < 8) return;
+    u8 v = c->seen >> 8;
+    c->count = 0;
+    if (c->have && c->wr[3] & 8) c->receive_check = entered(c, c->receive_check, c->held);
+    c->have = 1;
+    c->held = v;
+    c->leading = c->leading && v == (two && !c->turn ? c->wr[6] : c->wr[7]);
+    c->turn = !c->turn;
+    if (!(c->leading && c->wr[3] & 2)) enqueue(c, (struct entry){.byte = v});
 }
 
 static void asynchronous_receive(struct channel *c, int bit) {
@@ -318,10 +406,10 @@ static int rr0(const struct chip *c, int ch) {
 static int rr1(const struct chip *c, int ch) {
     const struct channel *x = &c->ch[ch];
     const struct entry *e = &x->queue[0];
-    int value = x->mode == SDLC || (x->left == 0 && !x->full) ? 1 : 0;
+    int value = hunts(x->mode) || (x->left == 0 && !x->full) ? 1 : 0;
     value |= x->parity_latch << 4 | x->overrun_latch << 5;
     if (x->waiting && e->ends) value |= 0x86;
-    if (x->waiting && (e->framing || (e->ends && e->bad))) value |= 0x40;
+    if (in_blocks(x) ? x->receive_check != 0 : x->waiting && (e->framing || (e->ends && e->bad))) value |= 0x40;
     return value;
 }
 
@@ -329,18 +417,23 @@ static void set_mode(struct channel *c, enum mode mode) {
     c->mode = mode;
     idle(c);
     restart(c);
-    show(c, (c->live & ~(BROKEN | HUNT)) | (mode == SDLC ? HUNT : 0));
+    show(c, (c->live & ~(BROKEN | HUNT)) | (hunts(mode) ? HUNT : 0));
+}
+
+static enum mode mode_of(u8 wr4) {
+    static const u8 modes[4] = {MONOSYNC, BISYNC, SDLC, SDLC};
+    return wr4 & 0x0C ? ASYNCHRONOUS : modes[wr4 >> 4 & 3];
 }
 
 static void write_register(struct channel *c, int ch, int n, u8 v) {
     if (n == 2 && ch == 0) return;
     c->wr[n] = v;
     if (n == 1 && !(v & 2)) c->transmit = 0;
-    if (n == 3 && v & 0x10 && c->mode == SDLC) {
+    if (n == 3 && v & 0x10 && hunts(c->mode)) {
         restart(c);
         show(c, c->live | HUNT);
     }
-    if (n == 4 && c->mode != (v & 0x0C ? ASYNCHRONOUS : SDLC)) set_mode(c, v & 0x0C ? ASYNCHRONOUS : SDLC);
+    if (n == 4 && c->mode != mode_of(v)) set_mode(c, mode_of(v));
 }
 
 static void command(struct chip *c, int ch, u8 v) {
@@ -360,8 +453,8 @@ static void command(struct chip *c, int ch, u8 v) {
     case 7: if (ch == 0) reti(c); break;
     }
     switch (v >> 6) {
-    case 1: x->receive_check = PRESET; break;
-    case 2: x->send_check = PRESET; break;
+    case 1: x->receive_check = in_blocks(x) ? 0 : PRESET; break;
+    case 2: x->send_check = in_blocks(x) ? 0 : PRESET; break;
     case 3: show(x, x->live & ~UNDERRUN); break;
     }
     x->pointer = v & 7;
@@ -376,7 +469,7 @@ static int control_write(struct chip *c, int ch, u8 v) {
         command(c, ch, v);
         return 0;
     }
-    if (n == 4 && (v >> 6 || (v & 0x0C) == 8 || ((v & 0x0C) == 0 && (v & 0x30) != 0x20))) return REFUSED + 3;
+    if (n == 4 && (v >> 6 || (v & 0x0C) == 8 || ((v & 0x0C) == 0 && (v & 0x30) == 0x30))) return REFUSED + 3;
     x->pointer = 0;
     write_register(x, ch, n, v);
     return 0;
@@ -418,7 +511,7 @@ static int transmit(struct chip *c, int ch) {
     if (ch > 1) return REFUSED + 1;
     struct channel *x = &c->ch[ch];
     if (x->mode == NO_MODE) return 1;
-    int bit = x->mode == SDLC ? sdlc_bit(x) : asynchronous_bit(x);
+    int bit = x->mode == SDLC ? sdlc_bit(x) : in_blocks(x) ? block_bit(x) : asynchronous_bit(x);
     return x->wr[5] & 0x10 ? 0 : bit;
 }
 
@@ -429,9 +522,11 @@ static int receive(struct chip *c, int ch, u8 bit) {
     if (x->mode == NO_MODE) return 0;
     if (!(x->wr[3] & 1) || (x->wr[3] & 0x20 && !(x->live & DCD))) {
         restart(x);
-        show(x, (x->live & ~BROKEN) | (x->mode == SDLC ? HUNT : 0));
+        show(x, (x->live & ~BROKEN) | (hunts(x->mode) ? HUNT : 0));
     } else if (x->mode == SDLC) {
         sdlc_receive(x, bit);
+    } else if (in_blocks(x)) {
+        block_receive(x, bit);
     } else {
         asynchronous_receive(x, bit);
     }

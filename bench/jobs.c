@@ -1,6 +1,7 @@
 /* Rounds of one job, done by plain C (1), by the product (2), by both in turn (3), or left undone (0). Standard input: the job (t transmit ticks,
-   r receive ticks, T and R the same of both channels in turn, s a note sent, l a line written; c the zeros of a note counted and p the ticks of
-   the largest list of such notes, C and P the same beside C that lays the lines out first; a and z the check's advance over zero bytes by
+   r receive ticks, T and R the same of both channels in turn, m and M of them in Monosync, y and Y in Bisync, s a note sent, l a line written; c
+   the zeros of a note counted and p the ticks of the largest list of such notes, C and P the same beside C that lays the lines out first; a and z
+   the check's advance over zero bytes by
    halves and byte by byte, j a body's check joined to a heading's, w the check of both worked out whole; notes' lines by the byte engine, its tables
    lent, beside the bit engine b, plain C i and C with the same tables k, and u a note's with its tables made for it beside the bit engine), who, the
    note's kind (0 mixed, 1 FF, 2 00, 3 other random bytes in each round; of a and z the polynomial, 0 SDLC's, 1 the other) and length, and the
@@ -15,8 +16,8 @@ int scanf(const char *, ...);
 struct timespec { long seconds, nanoseconds; };
 int clock_gettime(int, struct timespec *);
 
-extern size sio_transmit(const u8 *note, size n, u8 *out, size len, size ticks, _Bool both);
-extern size sio_receive(const u8 *line, size n, u8 *out, size len, size ticks, _Bool both);
+extern size sio_transmit(const u8 *note, size n, u8 *out, size len, size ticks, _Bool both, u8 wr4);
+extern size sio_receive(const u8 *line, size n, u8 *out, size len, size ticks, _Bool both, u8 wr4);
 extern size sio_send(const u8 *note, size n, size *told, size told_len, size rounds);
 extern size sio_write_line(const u8 *note, size note_len, u8 *out, size out_len, size at);
 extern size sio_engine(const u8 *note, size note_len, u8 *out, size out_len, size at);
@@ -29,20 +30,24 @@ extern size sio_check_text(u16 p, u16 r, const u8 *text, size n);
 extern size sio_check_of(const u8 *text, size n);
 extern size sio_joined(u16 heading, u16 body, size k);
 
-enum { LINE = 20000, TICKS = 65536, NOTES = 4, CHECKS = 16, LIST = 65535, MONTH = 400000 };
+enum { LINE = 20000, TICKS = 65536, NOTES = 4, CHECKS = 16, LIST = 65535, MONTH = 400000, SYNC_CHARACTER = 0x16 };
 
 /* RR0 and RR1 of both channels. */
 static size state(const struct chip *c) {
     return rr0(c, 0) | rr1(c, 0) << 8 | rr0(c, 1) << 16 | (size)rr1(c, 1) << 24;
 }
 
-static void set_up(struct chip *c, int ch) {
+static void set_up(struct chip *c, int ch, u8 wr4) {
     control_write(c, ch, 4);
-    control_write(c, ch, 0x20);
+    control_write(c, ch, wr4);
+    control_write(c, ch, 6);
+    control_write(c, ch, SYNC_CHARACTER);
+    control_write(c, ch, 7);
+    control_write(c, ch, SYNC_CHARACTER);
     control_write(c, ch, 3);
-    control_write(c, ch, 0xC1);
+    control_write(c, ch, 0xC9);
     control_write(c, ch, 5);
-    control_write(c, ch, 0x69);
+    control_write(c, ch, 0x6D);
     control_write(c, ch, 0x80);
     control_write(c, ch, 0xC0);
 }
@@ -61,13 +66,13 @@ static size feed(struct chip *c, int ch, const u8 *note, size n, size at) {
     return 0;
 }
 
-__attribute__((noinline)) static size c_transmit(const u8 *note, size n, u8 *out, size len, size ticks, _Bool both) {
+__attribute__((noinline)) static size c_transmit(const u8 *note, size n, u8 *out, size len, size ticks, _Bool both, u8 wr4) {
     struct chip c;
     size at = 0, other = 0, sent = 0;
     u8 ch = 0;
     reset(&c);
-    set_up(&c, 0);
-    set_up(&c, 1);
+    set_up(&c, 0, wr4);
+    set_up(&c, 1, wr4);
     for (size left = ticks; left > 0; left--) {
         size next = feed(&c, ch, note, n, at);
         u8 bit = transmit(&c, ch);
@@ -83,13 +88,13 @@ __attribute__((noinline)) static size c_transmit(const u8 *note, size n, u8 *out
 }
 
 /* The line again and again; each character is read as it comes. */
-__attribute__((noinline)) static size c_receive(const u8 *line, size n, u8 *out, size len, size ticks, _Bool both) {
+__attribute__((noinline)) static size c_receive(const u8 *line, size n, u8 *out, size len, size ticks, _Bool both, u8 wr4) {
     struct chip c;
     size at = 0, other = 0, got = 0;
     u8 ch = 0;
     reset(&c);
-    set_up(&c, 0);
-    set_up(&c, 1);
+    set_up(&c, 0, wr4);
+    set_up(&c, 1, wr4);
     for (size left = ticks; left > 0; left--) {
         size next = at + 1 < n ? at + 1 : 0;
         receive(&c, ch, line[at]);
@@ -162,9 +167,12 @@ static size fill_month(int kind, size n, size round) {
 
 static size job(char what, int who, int kind, size n, size bits, size *told) {
     _Bool both = what == 'T' || what == 'R';
+    u8 wr4 = what == 'm' || what == 'M' ? 0x00 : what == 'y' || what == 'Y' ? 0x10 : 0x20;
     switch (what) {
-    case 't': case 'T': return who == 1 ? c_transmit(note, n, out, TICKS, TICKS, both) : sio_transmit(note, n, out, TICKS, TICKS, both);
-    case 'r': case 'R': return who == 1 ? c_receive(line, bits, out, TICKS, TICKS, both) : sio_receive(line, bits, out, TICKS, TICKS, both);
+    case 't': case 'T': case 'm': case 'y':
+        return who == 1 ? c_transmit(note, n, out, TICKS, TICKS, both, wr4) : sio_transmit(note, n, out, TICKS, TICKS, both, wr4);
+    case 'r': case 'R': case 'M': case 'Y':
+        return who == 1 ? c_receive(line, bits, out, TICKS, TICKS, both, wr4) : sio_receive(line, bits, out, TICKS, TICKS, both, wr4);
     case 's': return who == 1 ? c_send(note, n, told, NOTES) : sio_send(note, n, told, 2, NOTES);
     case 'a': case 'z': case 'j': case 'w': return check_jobs(what, who, kind, n);
     case 'c': return who == 1 ? zeros_counted(note, n) : sio_zeros_of(note, n);
@@ -191,6 +199,13 @@ static size fill_list(size n) {
     return bits;
 }
 
+/* Two sync characters and the note, low bits first; gives the bits. */
+static size fill_block(size n) {
+    for (size i = 0; i < 16; i++) line[i] = SYNC_CHARACTER >> i % 8 & 1;
+    for (size i = 0; i < 8 * n; i++) line[16 + i] = note[i / 8] >> i % 8 & 1;
+    return 8 * n + 16;
+}
+
 static long now(void) {
     struct timespec t;
     clock_gettime(2, &t);
@@ -210,6 +225,7 @@ int main(void) {
     _Bool counts = what == 'c' || what == 'C', pages = what == 'p' || what == 'P';
     size units = what == 's' ? NOTES * (bits + 8) : what == 'l' || what == 'u' ? bits + 8 : engine ? fill_month(kind, n, 0) : checks ? CHECKS : counts ? 8 * n : pages ? fill_list(n) : TICKS;
     if (checks && n < PRINTED) return 1;
+    if (what == 'M' || what == 'Y') bits = fill_block(n);
     make_tables();
     for (size r = 0; r < rounds; r++) {
         if (engine && kind == 3) fill_month(kind, n, r);

@@ -1,10 +1,6 @@
 /* The check's advance over zero bytes and the join, in plain C: the same halving, the same product. */
 enum { PRINTED = 40 };                                                    /* a heading's bytes */
 
-static u16 step_over(u16 p, u16 check, int bit) {
-    return (u16)(check << 1) ^ ((check >> 15) != bit ? p : 0);
-}
-
 __attribute__((noinline)) static u16 check_text(u16 p, u16 check, const u8 *text, size n) {
     for (size i = 0; i < n; i++)
         for (int k = 0; k < 8; k++) check = step_over(p, check, text[i] >> k & 1);

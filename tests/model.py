@@ -11,12 +11,20 @@ CHARACTER_WAITS, ANY_PENDING, BUFFER_EMPTY, DCD, HUNT, CTS, UNDERRUN, BREAK_ABOR
 LENGTHS = (5, 7, 6, 8)
 SHAPES = (('1111000', 1), ('111000', 2), ('11000', 3), ('1000', 4))
 GOOD = 0x1D0F
+SDLC, CRC16 = 0x1021, 0x8005
+BLOCKS = 'monosync', 'bisync'
 
 
-def check_step(register, bit):
-    """x^16+x^12+x^5+1, x^15 in the top bit."""
+def check_step(register, bit, polynomial=SDLC):
+    """A polynomial is the number of its powers below x^16; x^15 in the top bit."""
     feedback = (register >> 15) ^ bit
-    return ((register << 1) & 0xFFFF) ^ (0x1021 if feedback else 0)
+    return ((register << 1) & 0xFFFF) ^ (polynomial if feedback else 0)
+
+
+def check_over(register, bits, polynomial):
+    for b in bits:
+        register = check_step(register, b, polynomial)
+    return register
 
 
 def low_first(value, count):
@@ -50,7 +58,14 @@ class Channel:
 
     def live(self):
         return ((BREAK_ABORT if self.break_abort else 0) | (UNDERRUN if self.underrun else 0) | (CTS if self.cts else 0)
-                | (HUNT if self.mode == 'sdlc' and self.hunt else 0) | (DCD if self.dcd else 0))
+                | (HUNT if self.synchronous() and self.hunt else 0) | (DCD if self.dcd else 0))
+
+    def synchronous(self):
+        return self.mode == 'sdlc' or self.mode in BLOCKS
+
+    def polynomial(self):
+        """Of Monosync and Bisync; SDLC has its own."""
+        return CRC16 if self.wr[5] & 4 else SDLC
 
     def step(self, action, *arguments):
         """The status rule around one step: any change latches, but D6 falling alone."""
@@ -68,16 +83,18 @@ class Channel:
             self.latched = old != new and not (old ^ new == UNDERRUN and old & UNDERRUN)
 
     def rr0(self, any_pending):
-        empty = not self.full and not (self.mode == 'sdlc' and self.unit == 'check')
+        empty = not self.full and not (self.synchronous() and self.unit == 'check')
         return ((CHARACTER_WAITS if self.queue else 0) | (ANY_PENDING if self.is_a and any_pending else 0)
                 | (BUFFER_EMPTY if empty else 0) | (self.shown if self.latched else self.live()))
 
     def rr1(self):
-        value = 1 if self.mode == 'sdlc' or (not self.bits and not self.full) else 0
+        value = 1 if self.synchronous() or (not self.bits and not self.full) else 0
         value |= (0x10 if self.parity_latch else 0) | (0x20 if self.overrun_latch else 0)
         if self.queue:
             oldest = self.queue[0]
             value |= (0x86 if oldest.end else 0) | (0x40 if oldest.framing or (oldest.end and oldest.bad) else 0)
+        if self.mode in BLOCKS:
+            value = value & ~0x40 | (0x40 if self.receive_check else 0)
         return value
 
     def reset(self):
@@ -90,10 +107,10 @@ class Channel:
         self.wr[n] = value
         if n == 1 and not value & 2:
             self.transmit_pending = False
-        elif n == 3 and value & 0x10 and self.mode == 'sdlc':
+        elif n == 3 and value & 0x10 and self.synchronous():
             self.restart_receiver()
         elif n == 4:
-            mode = 'async' if value & 0x0C else 'sdlc'
+            mode = 'async' if value & 0x0C else {0: 'monosync', 1: 'bisync', 2: 'sdlc'}[value >> 4 & 3]
             if mode != self.mode:
                 self.mode = mode
                 self.break_abort = False
@@ -101,10 +118,11 @@ class Channel:
                 self.restart_receiver()
 
     def mid_code(self, code):
+        preset = 0 if self.mode in BLOCKS else 0xFFFF
         if code == 1:
-            self.receive_check = 0xFFFF
+            self.receive_check = preset
         elif code == 2:
-            self.send_check = 0xFFFF
+            self.send_check = preset
         elif code == 3:
             self.underrun = False
 
@@ -163,6 +181,28 @@ class Channel:
             self.owed = self.run == 5
         return bit
 
+    def choose_in_block(self):
+        checked = self.wr[5] & 1
+        after, self.unit = self.unit, 'mark'
+        if not self.sender_on():
+            self.bits = [1]
+        elif after != 'mark' and self.full:
+            self.unit, self.bits = 'byte', low_first(self.load(), 8)
+            if checked:
+                self.send_check = check_over(self.send_check, self.bits, self.polynomial())
+        elif after == 'byte' and checked and not self.underrun:
+            self.unit, self.bits = 'check', [(self.send_check >> k) & 1 for k in range(15, -1, -1)]
+            self.underrun = True
+        else:
+            second = low_first(self.wr[7], 8) if self.mode == 'bisync' else []
+            self.unit, self.bits = 'sync', low_first(self.wr[6], 8) + second
+            self.underrun |= after == 'byte'
+
+    def block_bit(self):
+        if not self.bits:
+            self.choose_in_block()
+        return self.bits.pop(0)
+
     def count_sent(self, value):
         """How many low bits of a byte go out; with length 00 its shape says it."""
         if self.wr[5] & 0x60:
@@ -183,7 +223,7 @@ class Channel:
     def transmit(self):
         if self.mode is None:
             return 1
-        bit = self.sdlc_bit() if self.mode == 'sdlc' else self.async_bit()
+        bit = self.sdlc_bit() if self.mode == 'sdlc' else self.block_bit() if self.mode in BLOCKS else self.async_bit()
         return 0 if self.wr[5] & 0x10 else bit
 
     # ---- Receiving
@@ -192,6 +232,7 @@ class Channel:
         self.hunt, self.skipping, self.ones = True, False, 0
         self.drop_frame()
         self.character, self.settings, self.waiting = None, None, False
+        self.seen, self.to_enter, self.leading, self.turn = [], None, False, 0
 
     def drop_frame(self):
         self.delay, self.part, self.held = [], [], None
@@ -226,6 +267,8 @@ class Channel:
             self.restart_receiver()
         elif self.mode == 'sdlc':
             self.sdlc_receive(bit)
+        elif self.mode in BLOCKS:
+            self.block_receive(bit)
         else:
             self.async_receive(bit)
 
@@ -273,6 +316,28 @@ class Channel:
         if self.held is not None:
             self.put(Entry(self.held))
         self.held = byte
+
+    def block_receive(self, bit):
+        two = self.mode == 'bisync'
+        self.seen.append(bit)
+        if self.hunt:
+            sync = low_first(self.wr[6], 8) + low_first(self.wr[7], 8) if two else low_first(self.wr[7], 8)
+            self.seen = self.seen[-len(sync):]
+            if self.seen == sync:
+                self.hunt, self.seen = False, []
+                self.leading, self.turn, self.to_enter = True, 0, None
+            return
+        if len(self.seen) < 8:
+            return
+        byte, self.seen = to_byte(self.seen), []
+        if self.to_enter is not None and self.wr[3] & 8:
+            self.receive_check = check_over(self.receive_check, low_first(self.to_enter, 8), self.polynomial())
+        self.to_enter = byte
+        awaited = self.wr[6] if two and self.turn == 0 else self.wr[7]
+        self.turn = 1 - self.turn
+        self.leading = self.leading and byte == awaited
+        if not (self.leading and self.wr[3] & 2):
+            self.put(Entry(byte))
 
     def async_receive(self, bit):
         if self.waiting:
@@ -357,7 +422,7 @@ class Chip:
     def control_write(self, k, value):
         c = self.channels[k]
         n = c.pointer
-        if n == 4 and (value >> 6 or value & 0x0C == 8 or (value & 0x0C == 0 and value & 0x30 != 0x20)):
+        if n == 4 and (value >> 6 or value & 0x0C == 8 or (value & 0x0C == 0 and value & 0x30 == 0x30)):
             raise Refused(3)
         if n:
             c.step(c.write_register, n, value)

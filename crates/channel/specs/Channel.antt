@@ -75,7 +75,7 @@ settled was is = withStatus is (noticed (is .status) (liveOf was) (liveOf is))
 -- Resets
 
 abbrev pub noRegisters : Registers
-noRegisters = registers 0 0 0 0 0 0 0
+noRegisters = registers 0 0 0 0 0 0 0 false
 
 -- "A channel reset zeroes the WRs, empties buffer and queue, leaves no mode, sets D6, clears D7 and RR1 D4 and D5, arms the first-character
 -- interrupt, presets both checks to ones, ends that channel's pending and in-service sources and unlatches external status."

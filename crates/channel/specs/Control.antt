@@ -4,11 +4,11 @@ use Prim.Native.Nat.{ℕ, _+_}
 use lib.Dec.{eqb}
 use Rattle.common.specs.Bit.{placed}
 use Rattle.common.specs.Choice.{if_then_else_}
-use Rattle.common.specs.Mode.{inSdlc}
+use Rattle.common.specs.Mode.{inBlocks, synchronous, sameMode}
 use Rattle.common.specs.declared.Mode.{Mode}
-use Rattle.common.specs.declared.Mode.the-variants.{NoMode, Asynchronous, Sdlc}
 use Rattle.common.specs.declared.Refusal.the-variants.{Setting}
-use Rattle.queue.specs.Queue.{waits, errorReset, rr1}
+use Rattle.queue.specs.Queue.{waits, errorReset, rr1, rr1Told}
+use Rattle.bytesync.specs.Hearing.{wrong}
 use Rattle.sender.specs.Sender.{aborted, checkPreset, latchCleared, idled, allSent, bufferReady}
 use Rattle.receiver.specs.Receiver.{enterHunt, modeChanged, presetCheck}
 use Rattle.channel.specs.declared.Side.{Side}
@@ -17,7 +17,7 @@ use Rattle.status.specs.declared.Live.{Live}
 use Rattle.channel.specs.declared.Channel.{Channel}
 use Rattle.channel.specs.declared.Answer.the-variants.{Done, Gave, Refused}
 use Rattle.channel.specs.declared.Answered.{Answered}
-use Rattle.settings.specs.Settings.{store1, store2, store3, store4, store5, store6, store7, commandIn, presetIn, pointerIn, transmitOn, entersHunt, modeOf, notBuilt, sendingOf}
+use Rattle.settings.specs.Settings.{store1, store2, store3, store4, store5, store6, store7, commandIn, presetIn, pointerIn, transmitOn, entersHunt, modeOf, modeIn, notBuilt, sendingOf}
 use Rattle.status.specs.Status.{shownBits, afresh}
 use Rattle.channel.specs.Channel.{withRegisters, withSender, withReceiver, withQueue, withStatus, withPointer, withArmed, withTransmit, answered, liveOf, settled, resetWith}
 
@@ -37,8 +37,9 @@ commanded c k =
 -- "D7-6: 1 preset Rx check, 2 preset Tx check, 3 clear Underrun latch"
 unfoldable pub preset : Channel → ℕ → Channel
 preset c k =
-    if eqb k 1 then withReceiver c (presetCheck (c .receiver))
-    else (if eqb k 2 then withSender c (checkPreset (c .sender))
+    let m = modeIn (c .registers) in
+    if eqb k 1 then withReceiver c (presetCheck m (c .receiver))
+    else (if eqb k 2 then withSender c (checkPreset m (c .sender))
     else (if eqb k 3 then withSender c (latchCleared (c .sender))
     else c))
 
@@ -65,32 +66,22 @@ abbrev pub setWr2 : Channel → Side → ℕ → Channel
 setWr2 c A v = c
 setWr2 c B v = withRegisters c (store2 (c .registers) v)
 
--- 01, Receiving: "in SDLC a WR3 write with D4 set, drops the unfinished part, .. and, in SDLC, starts hunt"
+-- 01, Receiving: "in SDLC a WR3 write with D4 set, drops the unfinished part, .. and, in SDLC, starts hunt"; 02, P3: "Enter Hunt starts the
+-- search again"
 abbrev pub setWr3 : Channel → ℕ → Channel
 setWr3 c v =
     let d = withRegisters c (store3 (c .registers) v) in
-    if entersHunt v && inSdlc (modeOf (c .registers .wr4)) then withReceiver d (enterHunt (c .receiver)) else d
+    if entersHunt v && synchronous (modeIn (c .registers)) then withReceiver d (enterHunt (c .receiver)) else d
 
 -- "An accepted WR4 that changes the mode idles the sender as after a mark, keeps buffer and queue, clears D7, drops the half-received
--- character and frame, and starts hunt in SDLC."
-abbrev pub sameMode : Mode → Mode → Bool
-sameMode NoMode NoMode = true
-sameMode NoMode Asynchronous = false
-sameMode NoMode Sdlc = false
-sameMode Asynchronous NoMode = false
-sameMode Asynchronous Asynchronous = true
-sameMode Asynchronous Sdlc = false
-sameMode Sdlc NoMode = false
-sameMode Sdlc Asynchronous = false
-sameMode Sdlc Sdlc = true
-
+-- character and frame, and starts hunt in SDLC."; Monosync and Bisync hunt as well, and to go from one to the other is a change
 abbrev pub inMode : Channel → Mode → Channel
-inMode c m = withReceiver (withSender c (idled (c .sender))) (modeChanged (c .receiver) (inSdlc m))
+inMode c m = withReceiver (withSender c (idled (c .sender))) (modeChanged (c .receiver) (synchronous m))
 
 unfoldable pub setWr4 : Channel → ℕ → Channel
 setWr4 c v =
     let d = withRegisters c (store4 (c .registers) v) in
-    if sameMode (modeOf (c .registers .wr4)) (modeOf v) then d else inMode d (modeOf v)
+    if sameMode (modeIn (c .registers)) (modeOf v) then d else inMode d (modeOf v)
 
 -- the register that the pointer names; a pointer above 7, which no history makes, names WR7
 unfoldable pub setRegister : Channel → Side → ℕ → ℕ → Channel
@@ -116,14 +107,18 @@ controlWritten c w v =
 -- else 0), D5 CTS, D6, D7." Whether a source is pending is the chip's to say
 abbrev pub rr0Of : Channel → Bool → Live → ℕ
 rr0Of c pending s =
-    placed (waits (c .queue)) 0b1 + placed pending 0b10 + placed (bufferReady (c .sender)) 0b100 + placed (s .dcd) 0b1000
+    placed (waits (c .queue)) 0b1 + placed pending 0b10 + placed (bufferReady (sendingOf (c .registers) (c .lines)) (c .sender)) 0b100 + placed (s .dcd) 0b1000
     + placed (s .hunt) 0b10000 + placed (s .cts) 0b100000 + placed (s .underrun) 0b1000000 + placed (s .abort) 0b10000000
 
 unfoldable pub rr0 : Channel → Bool → ℕ
 rr0 c pending = rr0Of c pending (shownBits (c .status) (liveOf c))
 
+-- 02, P3: "RR1 D6 is then 1 exactly while that check is not zero", in Monosync and Bisync
 unfoldable pub rr1Now : Channel → ℕ
-rr1Now c = rr1 (c .queue) (allSent (sendingOf (c .registers) (c .lines)) (c .sender))
+rr1Now c =
+    let sent = allSent (sendingOf (c .registers) (c .lines)) (c .sender) in
+    if inBlocks (modeIn (c .registers)) then rr1Told (c .queue) sent (wrong (c .receiver .check))
+    else rr1 (c .queue) sent
 
 -- "RR2: vector, B. Other reads give 0." The chip gives the vector, 0 for A
 unfoldable pub readRegister : Channel → Bool → ℕ → ℕ

@@ -112,6 +112,7 @@ impl Channel {
                 wr5: 0,
                 wr6: 0,
                 wr7: 0,
+                chosen: false,
             },
             sender: Sender::reset(),
             receiver: Receiver::reset(),

@@ -2,6 +2,8 @@
 use crate::Answer;
 use crate::Answered;
 use crate::Channel;
+use bytesync::wrong;
+use common::in_blocks;
 use common::placed;
 ghost use mathlib.Core.Path.{_≡_};
 ghost use Rattle.channel.specs.Control.{rr0, rr1Now, readRegister, controlRead};
@@ -11,10 +13,11 @@ impl Channel {
     pub fn rr0(self, pending: bool) -> u8
         ensures { λ r. ⌜ r ≡ rr0 self pending ⌝ }
     {
+        let g = self.registers.sending(self.lines);
         let s = self.status.shown_bits(self.live());
         let d0 = placed(self.queue.waits(), 0b1);
         let d1 = placed(pending, 0b10);
-        let d2 = placed(self.sender.buffer_ready(), 0b100);
+        let d2 = placed(self.sender.buffer_ready(g), 0b100);
         let d3 = placed(s.dcd, 0b1000);
         let d4 = placed(s.hunt, 0b10000);
         let d5 = placed(s.cts, 0b100000);
@@ -27,8 +30,11 @@ impl Channel {
     pub fn rr1(self) -> u8
         ensures { λ r. ⌜ r ≡ rr1Now self ⌝ }
     {
-        self.queue
-            .rr1(self.sender.all_sent(self.registers.sending(self.lines)))
+        let sent = self.sender.all_sent(self.registers.sending(self.lines));
+        if in_blocks(self.registers.mode()) {
+            return self.queue.rr1_told(sent, wrong(self.receiver.check));
+        }
+        self.queue.rr1(sent)
     }
 
     // The register that the pointer names; pending and vector are the chip's to say.

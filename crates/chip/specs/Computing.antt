@@ -5,13 +5,15 @@ use Rattle.line.specs.Bits.{lowBits, textBits}
 use Rattle.line.specs.Check.{checkStep, checkOver, topBits, checkBits}
 use Rattle.line.specs.Insertion.{stuff}
 use Rattle.line.specs.Bits.{fromLow}
-use Rattle.queue.specs.Queue.{pushed, taken, oldest, rr1, special}
+use Rattle.queue.specs.Queue.{pushed, taken, oldest, rr1, rr1Told, special}
 use Rattle.shapes.specs.Shapes.{shapeBits}
 use Rattle.shapes.specs.Sent.{bitsSent, oddOver}
 use Rattle.asynchronous.specs.Sending.{stopBits, tickCharacter}
 use Rattle.asynchronous.specs.Hearing.{size, bitsWith, hearCharacter}
 use Rattle.sdlc.specs.Sending.{following, going, tickSdlc}
 use Rattle.sdlc.specs.Hearing.{accept, push, one, zeroBit, hearSdlc}
+use Rattle.bytesync.specs.Sending.{following as followingBlock, tickBlock}
+use Rattle.bytesync.specs.Hearing.{syncSeen, hunting, entering, arrived, assembling, hearBlock}
 use Rattle.sender.specs.Sender.{tick}
 use Rattle.receiver.specs.Receiver.{hear}
 use Rattle.settings.specs.Settings.{modeOf, notBuilt, lengthOf, sendingOf, receivingOf}
@@ -30,8 +32,9 @@ use Rattle.chip.specs.Chip.{dataReadCall, transmitCall, receiveCall, lin
 unfoldable pub computing : ℕ
 unfolding
     lowBits textBits checkStep checkOver topBits checkBits stuff fromLow pushed taken oldest rr1
-    special shapeBits bitsSent oddOver stopBits tickCharacter size bitsWith hearCharacter following going
-    tickSdlc accept push one zeroBit hearSdlc tick hear modeOf notBuilt lengthOf sendingOf
+    rr1Told special shapeBits bitsSent oddOver stopBits tickCharacter size bitsWith hearCharacter
+    following going tickSdlc accept push one zeroBit hearSdlc followingBlock tickBlock syncSeen hunting
+    entering arrived assembling hearBlock tick hear modeOf notBuilt lengthOf sendingOf
     receivingOf changed noticed afresh liveOf settled commanded preset commandStep presetStep
     writeWr0 setWr4 setRegister controlWritten rr0 rr1Now readRegister dataRead transmitTick
     receiveTick linesSet specialWaits receivePending pendingIn highest anyOf withLevel mayTake

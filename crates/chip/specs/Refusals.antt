@@ -27,8 +27,8 @@ bitAbove bit = (2, leb 2 bit)
 abbrev pub linesAbove : ℕ → ℕ → Row
 linesAbove dcd cts = (2, leb 2 dcd || leb 2 cts)
 
--- 3: "a WR4 write with D7-6 not 00, or D3-2 = 10, or D3-2 = 00 and D5-4 not 10": a control write
--- is one to WR4 while the pointer is at 4
+-- 3: "a WR4 write with D7-6 not 00, or D3-2 = 10, or D3-2 = 00 and D5-4" external sync, 11, as 02,
+-- P3 leaves it: a control write is one to WR4 while the pointer is at 4
 abbrev pub pointerOf : Chip → ℕ → ℕ
 pointerOf c ch = if eqb ch 0 then c .a .pointer else c .b .pointer
 

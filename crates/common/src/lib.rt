@@ -1,7 +1,7 @@
 // What every part cites: the refusals of document 01 with their numbers, a channel's mode, and a register's bits. Assumes nothing.
 ghost use mathlib.Core.Path.{_≡_};
 ghost use Prim.Native.Nat.{_≤_};
-ghost use Rattle.common.specs.Mode.{inSdlc};
+ghost use Rattle.common.specs.Mode.{inSdlc, inBlocks, modeNumber};
 ghost use Rattle.common.specs.Bit.{placed};
 ghost use Rattle.common.specs.Refusal.{numberOf};
 
@@ -49,10 +49,12 @@ impl Refusal {
     }
 }
 
-// 01, Registers: what the last accepted WR4 chose; a reset "leaves no mode".
+// 01, Registers: what the last accepted WR4 chose; a reset "leaves no mode". 02, P3: Monosync and Bisync.
 pub enum Mode {
     NoMode,
     Asynchronous,
+    Monosync,
+    Bisync,
     Sdlc,
 }
 
@@ -63,7 +65,35 @@ pub fn in_sdlc(mode: Mode) -> bool
     match mode {
         Mode::NoMode => false,
         Mode::Asynchronous => false,
+        Mode::Monosync => false,
+        Mode::Bisync => false,
         Mode::Sdlc => true,
+    }
+}
+
+// The mode is one of the two byte-synchronous ones.
+pub fn in_blocks(mode: Mode) -> bool
+    ensures { λ r. ⌜ r ≡ inBlocks mode ⌝ }
+{
+    match mode {
+        Mode::NoMode => false,
+        Mode::Asynchronous => false,
+        Mode::Monosync => true,
+        Mode::Bisync => true,
+        Mode::Sdlc => false,
+    }
+}
+
+// A mode's number, to compare two by.
+pub fn mode_number(mode: Mode) -> u8
+    ensures { λ r. ⌜ r ≡ modeNumber mode ⌝ }
+{
+    match mode {
+        Mode::NoMode => 0,
+        Mode::Asynchronous => 1,
+        Mode::Monosync => 2,
+        Mode::Bisync => 3,
+        Mode::Sdlc => 4,
     }
 }
 

@@ -6,7 +6,9 @@ use channel::Channel;
 use channel::Side;
 use common::Mode;
 use common::Refusal;
+use common::in_blocks;
 use common::in_sdlc;
+use common::mode_number;
 use settings::command_in;
 use settings::enters_hunt;
 use settings::mode_of;
@@ -15,29 +17,21 @@ use settings::pointer_in;
 use settings::preset_in;
 use settings::transmit_on;
 ghost use mathlib.Core.Path.{_≡_};
-ghost use Rattle.channel.specs.Control.{commanded, preset, commandStep, presetStep, writeWr0, setWr1, setWr2, setWr3, sameMode, inMode, setWr4, setRegister, controlWritten};
+ghost use Rattle.common.specs.Mode.{synchronous, sameMode};
+ghost use Rattle.channel.specs.Control.{commanded, preset, commandStep, presetStep, writeWr0, setWr1, setWr2, setWr3, inMode, setWr4, setRegister, controlWritten};
 
 // The two modes are one.
 fn same_mode(m: Mode, n: Mode) -> bool
     ensures { λ r. ⌜ r ≡ sameMode m n ⌝ }
 {
-    match m {
-        Mode::NoMode => match n {
-            Mode::NoMode => true,
-            Mode::Asynchronous => false,
-            Mode::Sdlc => false,
-        },
-        Mode::Asynchronous => match n {
-            Mode::NoMode => false,
-            Mode::Asynchronous => true,
-            Mode::Sdlc => false,
-        },
-        Mode::Sdlc => match n {
-            Mode::NoMode => false,
-            Mode::Asynchronous => false,
-            Mode::Sdlc => true,
-        },
-    }
+    mode_number(m) == mode_number(n)
+}
+
+// The mode hunts for a flag or a sync.
+fn hunts(m: Mode) -> bool
+    ensures { λ r. ⌜ r ≡ synchronous m ⌝ }
+{
+    in_sdlc(m) | in_blocks(m)
 }
 
 // A command of WR0 but Channel Reset.
@@ -75,11 +69,11 @@ fn preset(mut c: Channel, code: u8) -> Channel
 {
     match code {
         Channel::PRESET_RECEIVE_CHECK => {
-            c.receiver = c.receiver.preset_check();
+            c.receiver = c.receiver.preset_check(c.registers.mode());
             c
         }
         Channel::PRESET_TRANSMIT_CHECK => {
-            c.sender = c.sender.preset_check();
+            c.sender = c.sender.preset_check(c.registers.mode());
             c
         }
         Channel::CLEAR_UNDERRUN => {
@@ -138,7 +132,7 @@ fn set_wr3(mut c: Channel, v: u8) -> Channel
     ensures { λ r. ⌜ r ≡ setWr3 c v ⌝ }
 {
     c.registers.wr3 = v;
-    if enters_hunt(v) & in_sdlc(mode_of(c.registers.wr4)) {
+    if enters_hunt(v) & hunts(c.registers.mode()) {
         c.receiver = c.receiver.enter_hunt();
         return c;
     }
@@ -150,7 +144,7 @@ fn in_mode(mut c: Channel, m: Mode) -> Channel
     ensures { λ r. ⌜ r ≡ inMode c m ⌝ }
 {
     c.sender = c.sender.idle();
-    c.receiver = c.receiver.mode_changed(in_sdlc(m));
+    c.receiver = c.receiver.mode_changed(hunts(m));
     c
 }
 
@@ -159,8 +153,9 @@ fn set_wr4(mut c: Channel, v: u8) -> Channel
     ensures { λ r. ⌜ r ≡ setWr4 c v ⌝ }
 {
     let m = mode_of(v);
-    let same = same_mode(mode_of(c.registers.wr4), m);
+    let same = same_mode(c.registers.mode(), m);
     c.registers.wr4 = v;
+    c.registers.chosen = true;
     if same {
         return c;
     }

@@ -1,12 +1,14 @@
 -- 01, Registers: "An accepted WR4 that changes the mode idles the sender as after a mark, keeps
 -- buffer and queue, clears D7, drops the half-received character and frame, and starts hunt in
--- SDLC." Word by word, and what no word names is kept. Assumes nothing.
+-- SDLC.", in Monosync and in Bisync. Word by word, and what no word names is kept. Assumes nothing.
 use mathlib.Core.Path.{_≡_}
 use mathlib.Core.Bool.{false}
 use Prim.Native.Nat.{ℕ}
-use Rattle.common.specs.Mode.{inSdlc}
+use Rattle.common.specs.Mode.{synchronous}
 use Rattle.asynchronous.specs.Sending.{noCharacter}
 use Rattle.asynchronous.specs.Hearing.{noAssembly}
+use Rattle.bytesync.specs.declared.BlockUnit.the-variants as blocks
+use Rattle.bytesync.specs.Hearing.{searching}
 use Rattle.sdlc.specs.declared.LineUnit.the-variants.{Mark}
 use Rattle.sdlc.specs.Sending.{notCounted}
 use Rattle.sdlc.specs.Hearing.{contentAt}
@@ -20,6 +22,7 @@ pub record ModeChanged (v : ℕ) (was is : Channel) : Type 0 where
   pub unit : is .sender .unit ≡ Mark
   pub nothing-owed : is .sender .insertion ≡ notCounted
   pub no-character : is .sender .character ≡ noCharacter
+  pub block : is .sender .block ≡ blocks.Mark
   -- "keeps buffer and queue", and with the queue RR1 D4 and D5
   pub buffer : is .sender .shared .buffer ≡ was .sender .shared .buffer
   pub full : is .sender .shared .full ≡ was .sender .shared .full
@@ -28,7 +31,8 @@ pub record ModeChanged (v : ℕ) (was is : Channel) : Type 0 where
   pub d7 : is .receiver .broken ≡ false
   -- "drops the half-received character and frame, and starts hunt in SDLC"
   pub character : is .receiver .assembly ≡ noAssembly false
-  pub frame : is .receiver .content ≡ contentAt (inSdlc (modeOf v)) false 0
+  pub frame : is .receiver .content ≡ contentAt (synchronous (modeOf v)) false 0
+  pub block-heard : is .receiver .reception ≡ searching (synchronous (modeOf v))
   -- kept: D6, both checks, the armed flag, the sources pending by a load and in service, the lines
   pub d6 : is .sender .shared .latch ≡ was .sender .shared .latch
   pub sent : is .sender .shared .check ≡ was .sender .shared .check

@@ -9,7 +9,7 @@ use Rattle.line.specs.Check.{ones}
 use Rattle.queue.specs.Queue.{waits}
 use Rattle.interrupts.specs.Interrupts.{noSources}
 use Rattle.settings.specs.declared.Lines.{Lines}
-use Rattle.settings.specs.Settings.{modeOf}
+use Rattle.settings.specs.Settings.{modeIn}
 use Rattle.channel.specs.declared.Channel.{Channel}
 use Rattle.channel.specs.Channel.{noRegisters, liveOf}
 use Rattle.channel.specs.Control.{rr1Now}
@@ -23,7 +23,7 @@ pub record ResetChannel (lines : Lines) (is : Channel) : Type 0 where
   pub buffer : is .sender .shared .full ≡ false
   pub queue : waits (is .queue) ≡ false
   -- "leaves no mode"
-  pub mode : modeOf (is .registers .wr4) ≡ NoMode
+  pub mode : modeIn (is .registers) ≡ NoMode
   -- "sets D6, clears D7 and RR1 D4 and D5": RR1 reads 1, for all is sent
   pub d6 : liveOf is .underrun ≡ true
   pub d7 : liveOf is .abort ≡ false

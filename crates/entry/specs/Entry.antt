@@ -35,10 +35,16 @@ overran e =
 -- 01, Registers: "RR1: D0 all sent ..; D3-1 binary 011 if the oldest entry ends a frame, else 000; D4
 -- parity, D5 overrun; D6 framing error or, at a frame's end, a bad check; D7 frame end. D6 and D7 are
 -- the oldest entry's"
-abbrev pub rr1Of : Entry → Bool → Bool → Bool → ℕ
-rr1Of e sent p o =
+abbrev pub rr1With : Entry → Bool → Bool → Bool → Bool → ℕ
+rr1With e sent p o error =
     placed sent 0b1 + placed (e .ends) 0b110 + placed p 0b10000 + placed o 0b100000
-    + placed (e .framing || (e .ends && e .bad)) 0b1000000 + placed (e .ends) 0b10000000
+    + placed error 0b1000000 + placed (e .ends) 0b10000000
+
+abbrev pub errorOf : Entry → Bool
+errorOf e = e .framing || (e .ends && e .bad)
+
+abbrev pub rr1Of : Entry → Bool → Bool → Bool → ℕ
+rr1Of e sent p o = rr1With e sent p o (errorOf e)
 
 -- 01, Interrupts: "if the oldest entry is special: overrun, framing, frame end, parity in mode 2"
 abbrev pub specialOf : Entry → Bool → Bool

@@ -1,7 +1,7 @@
 // An entry of the receive queue: a character with its marks, and what RR1 and the interrupts see of it. Assumes nothing.
 use common::placed;
 ghost use mathlib.Core.Path.{_≡_};
-ghost use Rattle.entry.specs.Entry.{received, noEntry, overran, rr1Of, specialOf};
+ghost use Rattle.entry.specs.Entry.{received, noEntry, overran, rr1With, rr1Of, specialOf};
 
 // A character with its marks.
 pub struct Entry {
@@ -62,11 +62,10 @@ impl Entry {
         e
     }
 
-    // RR1 with this entry the oldest, all sent and the two latches being told.
-    pub fn rr1(self, sent: bool, parity: bool, overrun: bool) -> u8
-        ensures { λ r. ⌜ r ≡ rr1Of self sent parity overrun ⌝ }
+    // RR1 with this entry the oldest, all sent, the two latches and D6 being told.
+    pub fn rr1_with(self, sent: bool, parity: bool, overrun: bool, error: bool) -> u8
+        ensures { λ r. ⌜ r ≡ rr1With self sent parity overrun error ⌝ }
     {
-        let error = self.framing | (self.ends & self.bad);
         let d0 = placed(sent, D0);
         let whole = placed(self.ends, WHOLE);
         let d4 = placed(parity, D4);
@@ -74,6 +73,14 @@ impl Entry {
         let d6 = placed(error, D6);
         let d7 = placed(self.ends, D7);
         d0 + whole + d4 + d5 + d6 + d7
+    }
+
+    // RR1 with D6 the entry's own.
+    pub fn rr1(self, sent: bool, parity: bool, overrun: bool) -> u8
+        ensures { λ r. ⌜ r ≡ rr1Of self sent parity overrun ⌝ }
+    {
+        let error = self.framing | (self.ends & self.bad);
+        self.rr1_with(sent, parity, overrun, error)
     }
 
     // Whether it is special; a wrong parity counts in receive interrupt mode 2 alone.

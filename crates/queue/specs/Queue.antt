@@ -9,7 +9,7 @@ use lib.ListN.{set, getD}
 use Rattle.common.specs.Choice.{if_then_else_}
 pub use Rattle.queue.specs.declared.Queue.{Queue}
 use Rattle.entry.specs.declared.Entry.{Entry}
-use Rattle.entry.specs.Entry.{noEntry, overran, rr1Of, specialOf}
+use Rattle.entry.specs.Entry.{noEntry, overran, rr1With, rr1Of, specialOf}
 
 -- 01, Receiving: "The queue has three entries": there is room for these, and the newest stands last
 abbrev pub room : ℕ
@@ -67,6 +67,10 @@ errorReset q = queue (q .entries) (q .count) false false
 -- 01, Registers: RR1, of the oldest entry and the latches
 unfoldable pub rr1 : Queue → Bool → ℕ
 rr1 q sent = rr1Of (oldest q) sent (q .parity) (q .overrun)
+
+-- 02, P3: "RR1 D6 is then 1 exactly while that check is not zero": D6 is told, whatever the oldest entry
+unfoldable pub rr1Told : Queue → Bool → Bool → ℕ
+rr1Told q sent error = rr1With (oldest q) sent (q .parity) (q .overrun) error
 
 -- 01, Interrupts: "if the oldest entry is special"
 unfoldable pub special : Queue → Bool → Bool

@@ -1,7 +1,7 @@
 // The receive queue of a channel: three entries, RR1's two latches beside them, and what RR1 and the interrupts see of it. Assumes nothing.
 use entry::Entry;
 ghost use mathlib.Core.Path.{_≡_};
-ghost use Rattle.queue.specs.Queue.{empty, pushed, taken, oldest, waits, errorReset, rr1, special};
+ghost use Rattle.queue.specs.Queue.{empty, pushed, taken, oldest, waits, errorReset, rr1, rr1Told, special};
 
 // The entries, oldest first; count of them wait. parity and overrun are RR1's latches D4 and D5.
 pub struct Queue {
@@ -130,6 +130,14 @@ impl Queue {
     {
         let e = self.oldest();
         e.rr1(sent, self.parity, self.overrun)
+    }
+
+    // RR1 with D6 told.
+    pub fn rr1_told(self, sent: bool, error: bool) -> u8
+        ensures { λ r. ⌜ r ≡ rr1Told self sent error ⌝ }
+    {
+        let e = self.oldest();
+        e.rr1_with(sent, self.parity, self.overrun, error)
     }
 
     // Whether the oldest entry is special; a wrong parity counts in receive interrupt mode 2 alone.

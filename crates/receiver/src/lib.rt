@@ -2,7 +2,11 @@
 use asynchronous::Assembled;
 use asynchronous::Assembly;
 use asynchronous::Format;
+use bytesync::Matched;
+use bytesync::Matching;
+use bytesync::Reception;
 use common::Mode;
+use common::in_blocks;
 use common::in_sdlc;
 use entry::Entry;
 use line::ONES;
@@ -10,8 +14,9 @@ use sdlc::Addressing;
 use sdlc::Content;
 use sdlc::Listened;
 use sdlc::Listener;
+use shared::preset_for;
 ghost use mathlib.Core.Path.{_≡_};
-ghost use Rattle.receiver.specs.Receiver.{listenerOf, listenerIn, byListener, byAssembly, silent};
+ghost use Rattle.receiver.specs.Receiver.{listenerOf, listenerIn, byListener, byAssembly, byMatched, hearInBlocks, silent};
 ghost use Rattle.receiver.specs.Receiver.{reset, dropped, enterHunt, modeChanged, presetCheck, hunting, hear};
 
 // A channel's settings as a tick finds them. on: WR3 D0 and, with auto enables, DCD.
@@ -20,12 +25,15 @@ pub struct Receiving {
     pub on: bool,
     pub addressing: Addressing,
     pub format: Format,
+    pub matching: Matching,
 }
 
-// What SDLC has heard of a frame, the asynchronous character, and what all modes share: the check, and RR0 D7.
+// What SDLC has heard of a frame, the asynchronous character, what Monosync and Bisync have heard of a block, and what all modes share: the
+// check, and RR0 D7.
 pub struct Receiver {
     pub content: Content,
     pub assembly: Assembly,
+    pub reception: Reception,
     pub check: u16,
     pub broken: bool,
 }
@@ -45,6 +53,7 @@ impl Receiver {
         Receiver {
             content: Content::at(false, false, 0),
             assembly: Assembly::none(false),
+            reception: Reception::searching(false),
             check: ONES,
             broken: false,
         }
@@ -101,6 +110,21 @@ impl Receiver {
         }
     }
 
+    fn by_matched(self, h: Matched) -> Heard
+        ensures { λ r. ⌜ r ≡ byMatched self h ⌝ }
+    {
+        let reception = h.reception;
+        let entry = h.entry;
+        let mut s = self;
+        s.reception = reception;
+        s.check = h.check;
+        Heard {
+            receiver: s,
+            some: h.some,
+            entry,
+        }
+    }
+
     // The unfinished part, a wait for a 1 and the count of ones are dropped: every mode at rest.
     fn dropped(self, hunt: bool, broken: bool) -> Receiver
         ensures { λ r. ⌜ r ≡ dropped self hunt broken ⌝ }
@@ -108,30 +132,31 @@ impl Receiver {
         Receiver {
             content: Content::at(hunt, false, 0),
             assembly: Assembly::none(false),
+            reception: Reception::searching(hunt),
             check: self.check,
             broken,
         }
     }
 
-    // WR3 D4, in SDLC.
+    // WR3 D4, in SDLC, Monosync and Bisync.
     pub fn enter_hunt(self) -> Receiver
         ensures { λ r. ⌜ r ≡ enterHunt self ⌝ }
     {
         self.dropped(true, self.broken)
     }
 
-    // An accepted WR4 changed the mode, to SDLC or to another.
-    pub fn mode_changed(self, sdlc: bool) -> Receiver
-        ensures { λ r. ⌜ r ≡ modeChanged self sdlc ⌝ }
+    // An accepted WR4 changed the mode, to one that hunts or to another.
+    pub fn mode_changed(self, hunts: bool) -> Receiver
+        ensures { λ r. ⌜ r ≡ modeChanged self hunts ⌝ }
     {
-        self.dropped(sdlc, false)
+        self.dropped(hunts, false)
     }
 
     // The check is preset at once; bits in the delay are counted after it.
-    pub fn preset_check(mut self) -> Receiver
-        ensures { λ r. ⌜ r ≡ presetCheck self ⌝ }
+    pub fn preset_check(mut self, mode: Mode) -> Receiver
+        ensures { λ r. ⌜ r ≡ presetCheck mode self ⌝ }
     {
-        self.check = ONES;
+        self.check = preset_for(mode);
         self
     }
 
@@ -140,7 +165,7 @@ impl Receiver {
         ensures { λ r. ⌜ r ≡ hunting g self ⌝ }
     {
         let mode = g.mode;
-        in_sdlc(mode) & self.content.hunt
+        (in_sdlc(mode) & self.content.hunt) | (in_blocks(mode) & self.reception.hunt)
     }
 
     // A tick that hands nothing over.
@@ -152,6 +177,17 @@ impl Receiver {
             some: false,
             entry: Entry::none(),
         }
+    }
+
+    // A receive tick of Monosync or Bisync.
+    fn hear_block(self, g: Receiving, bit: bool) -> Heard
+        ensures { λ r. ⌜ r ≡ hearInBlocks g self bit ⌝ }
+    {
+        let y = g.matching;
+        if g.on {
+            return self.by_matched(y.hear(self.reception, self.check, bit));
+        }
+        self.dropped(true, false).silent()
     }
 
     // A receive tick.
@@ -167,6 +203,8 @@ impl Receiver {
                 }
                 self.dropped(false, false).silent()
             }
+            Mode::Monosync => self.hear_block(g, bit),
+            Mode::Bisync => self.hear_block(g, bit),
             Mode::Sdlc => {
                 if g.on {
                     return self.by_listener(listening::hear(self.listener(), g.addressing, bit));

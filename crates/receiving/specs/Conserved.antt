@@ -15,12 +15,11 @@ use Rattle.sdlc.specs.Hearing.{hearSdlc}
 use Rattle.sdlc.specs.Laws.Plain.{hear-plain}
 use Rattle.whole.specs.Heard.{handed, before, hearAll}
 use Rattle.whole.specs.Laws.Heard.{before-join}
-use Rattle.receiver.specs.declared.Receiving.{Receiving}
 use Rattle.chip.specs.declared.Chip.{Chip}
 use Rattle.chip.specs.Event.{Event}
 use Rattle.stories.specs.Story.{Which, chan, happens, after}
 use Rattle.stories.specs.Received.{Role, bitIn, bitsOf, isRead, taking, tookOf}
-use Rattle.history.specs.Receiving.Side.{Side, side, sideOf}
+use Rattle.history.specs.Receiving.Side.{Heeded, Side, side, sideOf}
 use Rattle.receiving.specs.Statement.{roomFor, Fed, over, hears, reads, still}
 use Rattle.history.specs.Receiving.Events.{queuedBy, heardSide, readSide, Follows, Hearing, follows}
 
@@ -33,7 +32,7 @@ queue-takes {p} {o} {q} {es} h k r e = go (h .some) r
     go false r = rw (append-nil es) k
 
 -- at the end of a story: the side, and, whatever bits follow, the whole of what is handed over
-pub record Conserved (w : Which) (c : Chip) (st : List Event) (s : Listener) (g : Receiving) (es : List Entry) (p o : Bool) : Type 0 where
+pub record Conserved (w : Which) (c : Chip) (st : List Event) (s : Listener) (g : Heeded) (es : List Entry) (p o : Bool) : Type 0 where
   pub last : Listener
   pub queue : Queue
   pub waiting : List Entry
@@ -41,7 +40,7 @@ pub record Conserved (w : Which) (c : Chip) (st : List Event) (s : Listener) (g 
   pub holds : Holds p o queue waiting
   pub whole : (rest : List Bool) → before es (hearAll (g .addressing) s (bitsOf w st ++ rest)) ≡ before (tookOf w c st ++ waiting) (hearAll (g .addressing) last rest)
 
-pub conserved : (w : Which) {c : Chip} {st : List Event} {p o : Bool} → Fed w c st → (s : Listener) (q : Queue) (g : Receiving) (es : List Entry)
+pub conserved : (w : Which) {c : Chip} {st : List Event} {p o : Bool} → Fed w c st → (s : Listener) (q : Queue) (g : Heeded) (es : List Entry)
     → Hearing g → sideOf w c ≡ side s q g → Holds p o q es → Conserved w c st s g es p o
 unfolding after bitsOf tookOf hearAll
 conserved w over s q g es d e h = record { last = s; queue = q; waiting = es; there = e; holds = h; whole = λ rest. refl }

@@ -10,11 +10,12 @@ use borrow.Author.Tests.{eq-eqb, ne-eqb}
 use Rattle.common.specs.Choice.{if_then_else_}
 use Rattle.common.specs.declared.Mode.{Mode}
 use Rattle.common.specs.declared.Mode.the-variants.{Sdlc}
-use Rattle.common.specs.Mode.{inSdlc}
+use Rattle.common.specs.Mode.{inBlocks, synchronous}
 use Rattle.entry.specs.declared.Entry.{Entry}
 use Rattle.queue.specs.declared.Queue.{Queue}
 use Rattle.entry.specs.Entry.{plainEntry, rr1Of}
-use Rattle.queue.specs.Queue.{room, waits, rr1}
+use Rattle.queue.specs.Queue.{room, waits, rr1, rr1Told}
+use Rattle.bytesync.specs.Hearing.{wrong}
 use Rattle.queue.specs.Laws.{three-empty, latches-holds, rr1-holds, none-waits}
 use Rattle.queue.specs.Holding.{Holds, h0, h1, h2, h3}
 use Rattle.asynchronous.specs.Sending.{underWay}
@@ -26,7 +27,6 @@ use Rattle.whole.specs.Frames.{ended, allEnded}
 use Rattle.line.specs.Frame.{withCheck}
 use Rattle.whole.specs.Laws.Bytes.{withCheck-length}
 use Rattle.whole.specs.Laws.Frames.{unaddressed, frame-heard, notes-heard}
-use Rattle.receiver.specs.declared.Receiving.{Receiving}
 use Rattle.settings.specs.Settings.{sendingOf, receivingOf}
 use Rattle.channel.specs.declared.Channel.{Channel}
 use Rattle.channel.specs.declared.Answer.the-variants.{Gave}
@@ -37,7 +37,7 @@ use Rattle.chip.specs.Chip.{controlReadCall}
 use Rattle.chip.specs.Event.{Event, ControlRead}
 use Rattle.stories.specs.Story.{Which, A, B, number, chan, happens, after}
 use Rattle.stories.specs.Received.{role, bitIn, bitsOf, valuesOf, tookOf, bytesOf, goodEnd, noEnd}
-use Rattle.history.specs.Receiving.Side.{Side, sideOf}
+use Rattle.history.specs.Receiving.Side.{Heeded, Side, sideOf}
 use Rattle.receiving.specs.Statement.{Listening, Fed, over, hears, reads, still, Received}
 use Rattle.receiving.specs.Statement.{Demand2, Moment, Always2, Mark2, Notes2}
 use Rattle.history.specs.Receiving.Events.{Hearing, bytes-append, values-are}
@@ -143,9 +143,9 @@ holds-three (h3 a b c) = refl
 pub listens-again : (w : Which) (c : Chip) (st : List Event) (bytes : List ℕ) (es : List Entry) → Listening (sideOf w c) → Received w c st bytes es
     → chan w (after c st) .queue .count ≡ 0 → Listening (sideOf w (after c st))
 listens-again w c st bytes es l r n = record {
-  mode = ap (λ (g : Receiving). g .mode) (r .stays) ∙ l .mode;
-  on = ap (λ (g : Receiving). g .on) (r .stays) ∙ l .on;
-  search = ap (λ (g : Receiving). g .addressing .search) (r .stays) ∙ l .search;
+  mode = ap (λ (g : Heeded). g .mode) (r .stays) ∙ l .mode;
+  on = ap (λ (g : Heeded). g .on) (r .stays) ∙ l .on;
+  search = ap (λ (g : Heeded). g .addressing .search) (r .stays) ∙ l .search;
   empty = n;
   three = holds-three (r .holds);
   start = past-flag (ap (λ (s : Listener). s .content) (r .ready)) (ap (λ (s : Listener). s .check) (r .ready));
@@ -239,7 +239,9 @@ rr1-shows w c st vs p o m t = go (m .waiting) (m .holds) (m .marks)
 rr1-in : (c : Channel) (pending : Bool) (vector : ℕ) → c .pointer ≡ 1 → receivingOf (c .registers) (c .lines) .mode ≡ Sdlc → readRegister c pending vector ≡ rr1 (c .queue) true
 unfolding readRegister rr1Now receivingOf sendingOf
 rr1-in c pending vector p d =
-    rw p (ap (λ (k : Mode). rr1 (c .queue) (inSdlc k || (not (underWay (c .sender .character)) && not (c .sender .shared .full)))) d)
+    let idle = not (underWay (c .sender .character)) && not (c .sender .shared .full) in
+    rw p (ap (λ (k : Mode). if inBlocks k then rr1Told (c .queue) (synchronous k || idle) (wrong (c .receiver .check))
+    else rr1 (c .queue) (synchronous k || idle)) d)
 
 rr1-read : (w : Which) (c : Chip) → chan w c .pointer ≡ 1 → sideOf w c .settings .mode ≡ Sdlc → happens c (ControlRead (number w)) .answer ≡ Gave (rr1 (chan w c .queue) true)
 unfolding controlReadCall
@@ -250,5 +252,5 @@ rr1-read B c p d = ap Gave (rr1-in (c .b) false (rr2 c) p d)
 pub mark2 : Mark2
 mark2 w c xs ys note l n b f e p o t k =
     let m = always2 w c xs ys note l n b f e in
-    rr1-read w (after c xs) k (ap (λ (g : Receiving). g .mode) (m .stays) ∙ l .mode)
+    rr1-read w (after c xs) k (ap (λ (g : Heeded). g .mode) (m .stays) ∙ l .mode)
     ∙ ap Gave (rr1-shows w c xs (withCheck note) p o m t ∙ ap (shownAt (length (valuesOf w c xs))) (withCheck-length note))

@@ -2,25 +2,30 @@
 use asynchronous::Character;
 use asynchronous::Typed;
 use asynchronous::Typing;
+use bytesync::BlockUnit;
+use bytesync::Synced;
+use bytesync::Syncing;
 use common::Mode;
+use common::in_blocks;
 use common::in_sdlc;
 use line::Insertion;
-use line::ONES;
 use sdlc::Framed;
 use sdlc::Framer;
 use sdlc::Framing;
 use sdlc::LineUnit;
 use sdlc::not_counted;
 use shared::Shared;
+use shared::preset_for;
 ghost use mathlib.Core.Path.{_≡_};
-ghost use Rattle.sender.specs.Sender.{framerOf, framerIn, byFramer, byTypist, withBreak, tick};
-ghost use Rattle.sender.specs.Sender.{withShared, written, aborted, checkPreset, latchCleared, idled, atReset, allSent, bufferReady};
+ghost use Rattle.sender.specs.Sender.{framerOf, framerIn, byFramer, byTypist, bySyncing, withBreak, tick};
+ghost use Rattle.sender.specs.Sender.{withShared, blockIn, tickInBlocks, written, aborted, checkPreset, latchCleared, idled, atReset, allSent, bufferReady};
 
-// SDLC's unit and zero insertion, the asynchronous character, and what all modes share.
+// SDLC's unit and zero insertion, the asynchronous character, the unit of Monosync and Bisync, and what all modes share.
 pub struct Sender {
     pub unit: LineUnit,
     pub insertion: Insertion,
     pub character: Character,
+    pub block: BlockUnit,
     pub shared: Shared,
 }
 
@@ -30,6 +35,7 @@ pub struct Sending {
     pub broken: bool,
     pub framing: Framing,
     pub typing: Typing,
+    pub syncing: Syncing,
 }
 
 // What a tick gives; loaded: a byte or a character left the buffer.
@@ -61,6 +67,7 @@ impl Sender {
             unit: LineUnit::Mark,
             insertion: not_counted(),
             character: Character::none(),
+            block: BlockUnit::Mark,
             shared: Shared::reset(),
         }
     }
@@ -86,11 +93,13 @@ impl Sender {
         let unit = f.unit;
         let insertion = f.insertion;
         let character = self.character;
+        let block = self.block;
         let shared = f.shared;
         Sender {
             unit,
             insertion,
             character,
+            block,
             shared,
         }
     }
@@ -121,6 +130,44 @@ impl Sender {
         }
     }
 
+    // Another unit of Monosync or Bisync, and what all modes share.
+    fn with_block(self, block: BlockUnit, shared: Shared) -> Sender
+        ensures { λ r. ⌜ r ≡ blockIn self block shared ⌝ }
+    {
+        let unit = self.unit;
+        let insertion = self.insertion;
+        let character = self.character;
+        Sender {
+            unit,
+            insertion,
+            character,
+            block,
+            shared,
+        }
+    }
+
+    fn by_syncing(self, t: Synced) -> Ticked
+        ensures { λ r. ⌜ r ≡ bySyncing self t ⌝ }
+    {
+        let u = t.unit;
+        let k = t.shared;
+        Ticked {
+            bit: t.bit,
+            loaded: t.loaded,
+            sender: self.with_block(u, k),
+        }
+    }
+
+    // One transmit tick of Monosync or Bisync.
+    fn tick_block(self, g: Sending) -> Ticked
+        ensures { λ r. ⌜ r ≡ tickInBlocks g self ⌝ }
+    {
+        let u = self.block;
+        let k = self.shared;
+        let y = g.syncing;
+        self.by_syncing(y.tick(u, k)).with_break(g.broken)
+    }
+
     // One transmit tick.
     pub fn tick(self, g: Sending) -> Ticked
         ensures { λ r. ⌜ r ≡ tick g self ⌝ }
@@ -134,6 +181,8 @@ impl Sender {
             },
             Mode::Asynchronous => self.by_typist(g.typing.tick(self.character, self.shared))
                 .with_break(g.broken),
+            Mode::Monosync => self.tick_block(g),
+            Mode::Bisync => self.tick_block(g),
             Mode::Sdlc => self.by_framer(framing::tick(self.framer(), g.framing))
                 .with_break(g.broken),
         }
@@ -167,10 +216,10 @@ impl Sender {
     }
 
     // Preset Tx check.
-    pub fn preset_check(self) -> Sender
-        ensures { λ r. ⌜ r ≡ checkPreset self ⌝ }
+    pub fn preset_check(self, mode: Mode) -> Sender
+        ensures { λ r. ⌜ r ≡ checkPreset mode self ⌝ }
     {
-        self.with_shared(self.shared.check_set(ONES))
+        self.with_shared(self.shared.check_set(preset_for(mode)))
     }
 
     // Clear the underrun latch.
@@ -189,6 +238,7 @@ impl Sender {
             unit: LineUnit::Mark,
             insertion: not_counted(),
             character: Character::none(),
+            block: BlockUnit::Mark,
             shared,
         }
     }
@@ -198,14 +248,19 @@ impl Sender {
         ensures { λ r. ⌜ r ≡ allSent g self ⌝ }
     {
         let mode = g.mode;
-        in_sdlc(mode) | (!self.character.under_way() & !self.shared.full)
+        in_sdlc(mode) | in_blocks(mode) | (!self.character.under_way() & !self.shared.full)
     }
 
     // RR0 D2.
-    pub fn buffer_ready(self) -> bool
-        ensures { λ r. ⌜ r ≡ bufferReady self ⌝ }
+    pub fn buffer_ready(self, g: Sending) -> bool
+        ensures { λ r. ⌜ r ≡ bufferReady g self ⌝ }
     {
+        let mode = g.mode;
         let u = self.unit;
+        let b = self.block;
+        if in_blocks(mode) {
+            return !self.shared.full & !b.sends_check();
+        }
         !self.shared.full & !u.checking()
     }
 }

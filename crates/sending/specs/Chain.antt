@@ -6,10 +6,14 @@ use Prim.Native.Nat.{ℕ, zero, suc}
 use native.Mathlib.Omega.{arith}
 use lib.Dec.{eqb}
 use lib.ListN.{length, length-append}
+use Rattle.common.specs.declared.Mode.the-variants.{Sdlc}
 use Rattle.line.specs.Laws.Frame.{ticks-are}
+use Rattle.shared.specs.Preset.{presetFor}
 use Rattle.sdlc.specs.declared.LineUnit.the-variants.{Flag}
 use Rattle.sender.specs.declared.Sender.{Sender}
 use Rattle.sender.specs.Sender.{framerOf, checkPreset, latchCleared}
+use Rattle.sender.specs.Good.{Good}
+use Rattle.settings.specs.Settings.{modeIn, sendingOf}
 use Rattle.sdlc.specs.declared.Framer.{Framer}
 use Rattle.sdlc.specs.Sound.{SoundUnit}
 use Rattle.channel.specs.declared.Side.{Side}
@@ -33,7 +37,7 @@ use Rattle.channel.specs.declared.Side.the-variants as channels
 
 -- what the two writes leave
 
-record Left (c d : Channel) (f : Sender → Sender) : Type 0 where
+pub record Left (c d : Channel) (f : Sender → Sender) : Type 0 where
   pub sender : d .sender ≡ f (c .sender)
   pub settings : sendingIn d ≡ sendingIn c
   pub pointer : d .pointer ≡ 0
@@ -41,7 +45,11 @@ record Left (c d : Channel) (f : Sender → Sender) : Type 0 where
 at-zero : (c : Channel) → c .pointer ≡ 0 → eqb (c .pointer) 0 ≡ true
 at-zero c p = ap (λ (n : ℕ). eqb n 0) p
 
-preset-left : (c : Channel) (s : Side) → c .pointer ≡ 0 → Left c (controlWritten c s 0b10000000 .channel) checkPreset
+pub mode-in : (c : Channel) → Good (sendingIn c) → modeIn (c .registers) ≡ Sdlc
+unfolding sendingOf
+mode-in c h = h .sdlc-mode
+
+preset-left : (c : Channel) (s : Side) → c .pointer ≡ 0 → Left c (controlWritten c s 0b10000000 .channel) (checkPreset (modeIn (c .registers)))
 unfolding controlWritten writeWr0 commandStep presetStep commanded preset settled
 preset-left c s p = rw (at-zero c p) (record { sender = refl; settings = refl; pointer = refl })
 
@@ -49,12 +57,12 @@ clear-left : (c : Channel) (s : Side) → c .pointer ≡ 0 → Left c (controlWr
 unfolding controlWritten writeWr0 commandStep presetStep commanded preset settled
 clear-left c s p = rw (at-zero c p) (record { sender = refl; settings = refl; pointer = refl })
 
-write-preset : (w : Which) (c : Chip) → chan w c .pointer ≡ 0 → Left (chan w c) (chan w (happens c (ControlWrite (number w) 0b10000000) .chip)) checkPreset
+pub write-preset : (w : Which) (c : Chip) → chan w c .pointer ≡ 0 → Left (chan w c) (chan w (happens c (ControlWrite (number w) 0b10000000) .chip)) (checkPreset (modeIn (chan w c .registers)))
 unfolding controlWrite controlWriteA
 write-preset A c p = rw (at-zero (c .a) p) (preset-left (c .a) channels.A p)
 write-preset B c p = preset-left (c .b) channels.B p
 
-write-clear : (w : Which) (c : Chip) → chan w c .pointer ≡ 0 → Left (chan w c) (chan w (happens c (ControlWrite (number w) 0b11000000) .chip)) latchCleared
+pub write-clear : (w : Which) (c : Chip) → chan w c .pointer ≡ 0 → Left (chan w c) (chan w (happens c (ControlWrite (number w) 0b11000000) .chip)) latchCleared
 unfolding controlWrite controlWriteA
 write-clear A c p = rw (at-zero (c .a) p) (clear-left (c .a) channels.A p)
 write-clear B c p = clear-left (c .b) channels.B p
@@ -66,14 +74,14 @@ starts-anew w c p h =
     let x = write-preset w c (h .to-wr0) in
     let y = write-clear w d (x .pointer) in
     let e = chan w (happens d (ControlWrite (number w) 0b11000000) .chip) in
-    let s : e .sender ≡ latchCleared (checkPreset (chan w c .sender)) = y .sender ∙ ap latchCleared (x .sender) in
+    let s : e .sender ≡ latchCleared (checkPreset (modeIn (chan w c .registers)) (chan w c .sender)) = y .sender ∙ ap latchCleared (x .sender) in
     let g : sendingIn e ≡ sendingIn (chan w c) = y .settings ∙ x .settings in
     record {
       some = h .some;
       inside = h .inside;
       flag = ap (λ (t : Sender). t .unit) s ∙ h .flag;
       empty = ap (λ (t : Sender). t .shared .full) s ∙ h .empty;
-      preset = ap (λ (t : Sender). t .shared .check) s;
+      preset = ap (λ (t : Sender). t .shared .check) s ∙ ap presetFor (mode-in (chan w c) (h .settings));
       cleared = ap (λ (t : Sender). t .shared .latch) s;
       settings = rw g (h .settings);
       history = subst (λ (x : Sender). SoundUnit (x .unit) (x .insertion)) (sym s) (h .history);

@@ -7,7 +7,7 @@ use native.Mathlib.Omega.{arith}
 use lib.Dec.{eqb, leb}
 use Rattle.common.specs.Choice.{if_then_else_}
 use Rattle.common.specs.Bit.{placed}
-use Rattle.common.specs.Mode.{inSdlc}
+use Rattle.common.specs.Mode.{inSdlc, synchronous, sameMode}
 use Rattle.common.specs.Tools.{if-elim, by-test, void}
 use Rattle.line.specs.Bits.{odd}
 use Rattle.queue.specs.Queue.{waits}
@@ -17,7 +17,7 @@ use Rattle.sender.specs.declared.Sender.{Sender}
 use Rattle.sender.specs.Sender.{aborted, bufferReady}
 use Rattle.interrupts.specs.declared.Six.{Six}
 use Rattle.interrupts.specs.Interrupts.{acknowledged, ended}
-use Rattle.settings.specs.Settings.{commandIn, presetIn, entersHunt, modeOf, notBuilt}
+use Rattle.settings.specs.Settings.{commandIn, presetIn, entersHunt, modeOf, modeIn, notBuilt, sendingOf}
 use Rattle.channel.specs.declared.Side.{Side}
 use Rattle.status.specs.declared.Status.{Status}
 use Rattle.channel.specs.declared.Channel.{Channel}
@@ -25,7 +25,7 @@ use Rattle.channel.specs.declared.Answered.{Answered}
 use Rattle.status.specs.Status.{changed, noticed, shownBits, afresh}
 use Rattle.channel.specs.Channel.{withStatus, liveOf, settled}
 use Rattle.channel.specs.Control.{commanded, preset, commandStep, presetStep, writeWr0, setWr2}
-use Rattle.channel.specs.Control.{sameMode, setWr4, setRegister, controlWritten, rr0, readRegister}
+use Rattle.channel.specs.Control.{setWr4, setRegister, controlWritten, rr0, readRegister}
 use Rattle.channel.specs.Events.{dataRead, transmitTick, receiveTick, linesSet}
 use Rattle.chip.specs.declared.Chip.{Chip}
 use Rattle.chip.specs.declared.Outcome.{Outcome}
@@ -57,9 +57,9 @@ rr0-d6 : (c : Channel) (pending : Bool) → odd (rr0 c pending / 64) ≡ shownBi
 unfolding rr0
 rr0-d6 c pending =
     let s = shownBits (c .status) (liveOf c) in
-    high-two (placed (waits (c .queue)) 0b1 + placed pending 0b10 + placed (bufferReady (c .sender)) 0b100 + placed (s .dcd) 0b1000 + placed (s .hunt) 0b10000 + placed (s .cts) 0b100000)
+    high-two (placed (waits (c .queue)) 0b1 + placed pending 0b10 + placed (bufferReady (sendingOf (c .registers) (c .lines)) (c .sender)) 0b100 + placed (s .dcd) 0b1000 + placed (s .hunt) 0b10000 + placed (s .cts) 0b100000)
     (s .underrun) (s .abort)
-    (omega (arith, placed-le (waits (c .queue)) 0b1, placed-le pending 0b10, placed-le (bufferReady (c .sender)) 0b100, placed-le (s .dcd) 0b1000, placed-le (s .hunt) 0b10000, placed-le (s .cts) 0b100000))
+    (omega (arith, placed-le (waits (c .queue)) 0b1, placed-le pending 0b10, placed-le (bufferReady (sendingOf (c .registers) (c .lines)) (c .sender)) 0b100, placed-le (s .dcd) 0b1000, placed-le (s .hunt) 0b10000, placed-le (s .cts) 0b100000))
 
 read-rr0 : (c : Channel) (pending : Bool) (vector : ℕ) → c .pointer ≡ 0 → readRegister c pending vector ≡ rr0 c pending
 unfolding readRegister
@@ -140,8 +140,8 @@ wr0-shown c v l h =
 register-shows : (c : Channel) (s : Side) (p v : ℕ) → Shows (c .status) → Shows (setRegister c s p v .status)
 unfolding setRegister setWr4
 register-shows c s p v h =
-    if-elim StatusShows (eqb p 1) h (if-elim StatusShows (eqb p 2) (two s) (if-elim StatusShows (eqb p 3) (if-elim StatusShows (entersHunt v && inSdlc (modeOf (c .registers .wr4))) h h)
-    (if-elim StatusShows (eqb p 4) (if-elim StatusShows (sameMode (modeOf (c .registers .wr4)) (modeOf v)) h h) (if-elim StatusShows (eqb p 5) h (if-elim StatusShows (eqb p 6) h h)))))
+    if-elim StatusShows (eqb p 1) h (if-elim StatusShows (eqb p 2) (two s) (if-elim StatusShows (eqb p 3) (if-elim StatusShows (entersHunt v && synchronous (modeIn (c .registers))) h h)
+    (if-elim StatusShows (eqb p 4) (if-elim StatusShows (sameMode (modeIn (c .registers)) (modeOf v)) h h) (if-elim StatusShows (eqb p 5) h (if-elim StatusShows (eqb p 6) h h)))))
   where
     two : (s : Side) → Shows (setWr2 c s v .status)
     two channels.A = h

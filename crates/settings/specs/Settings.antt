@@ -4,38 +4,50 @@ use Prim.Native.Nat.{ℕ, _/_, _%_}
 use lib.Dec.{eqb}
 use Rattle.common.specs.Choice.{if_then_else_}
 use Rattle.common.specs.declared.Mode.{Mode}
-use Rattle.common.specs.declared.Mode.the-variants.{NoMode, Asynchronous, Sdlc}
+use Rattle.common.specs.declared.Mode.the-variants.{NoMode, Asynchronous, Monosync, Bisync, Sdlc}
 use Rattle.line.specs.Bits.{odd}
 use Rattle.asynchronous.specs.declared.Format.{Format}
+use Rattle.bytesync.specs.declared.Syncs.{Syncs}
+use Rattle.bytesync.specs.Syncs.{syncs, polynomialOf}
+use Rattle.bytesync.specs.Sending.{syncing}
+use Rattle.bytesync.specs.Hearing.{matching}
 use Rattle.sender.specs.declared.Sending.{Sending}
 use Rattle.receiver.specs.declared.Receiving.{Receiving}
 use Rattle.settings.specs.declared.Registers.{Registers}
 use Rattle.settings.specs.declared.Lines.{Lines}
 
--- the registers as written, and one of them written anew
-abbrev pub registers : ℕ → ℕ → ℕ → ℕ → ℕ → ℕ → ℕ → Registers
-registers a b c d e f g = record { wr1 = a; wr2 = b; wr3 = c; wr4 = d; wr5 = e; wr6 = f; wr7 = g }
+-- the registers as written, and one of them written anew; chosen: since the last reset a WR4 has chosen a mode
+abbrev pub registers : ℕ → ℕ → ℕ → ℕ → ℕ → ℕ → ℕ → Bool → Registers
+registers a b c d e f g m =
+    record { wr1 = a; wr2 = b; wr3 = c; wr4 = d; wr5 = e; wr6 = f; wr7 = g; chosen = m }
 
 abbrev pub store1 : Registers → ℕ → Registers
-store1 r v = registers v (r .wr2) (r .wr3) (r .wr4) (r .wr5) (r .wr6) (r .wr7)
+store1 r v =
+    registers v (r .wr2) (r .wr3) (r .wr4) (r .wr5) (r .wr6) (r .wr7) (r .chosen)
 
 abbrev pub store2 : Registers → ℕ → Registers
-store2 r v = registers (r .wr1) v (r .wr3) (r .wr4) (r .wr5) (r .wr6) (r .wr7)
+store2 r v =
+    registers (r .wr1) v (r .wr3) (r .wr4) (r .wr5) (r .wr6) (r .wr7) (r .chosen)
 
 abbrev pub store3 : Registers → ℕ → Registers
-store3 r v = registers (r .wr1) (r .wr2) v (r .wr4) (r .wr5) (r .wr6) (r .wr7)
+store3 r v =
+    registers (r .wr1) (r .wr2) v (r .wr4) (r .wr5) (r .wr6) (r .wr7) (r .chosen)
 
 abbrev pub store4 : Registers → ℕ → Registers
-store4 r v = registers (r .wr1) (r .wr2) (r .wr3) v (r .wr5) (r .wr6) (r .wr7)
+store4 r v =
+    registers (r .wr1) (r .wr2) (r .wr3) v (r .wr5) (r .wr6) (r .wr7) true
 
 abbrev pub store5 : Registers → ℕ → Registers
-store5 r v = registers (r .wr1) (r .wr2) (r .wr3) (r .wr4) v (r .wr6) (r .wr7)
+store5 r v =
+    registers (r .wr1) (r .wr2) (r .wr3) (r .wr4) v (r .wr6) (r .wr7) (r .chosen)
 
 abbrev pub store6 : Registers → ℕ → Registers
-store6 r v = registers (r .wr1) (r .wr2) (r .wr3) (r .wr4) (r .wr5) v (r .wr7)
+store6 r v =
+    registers (r .wr1) (r .wr2) (r .wr3) (r .wr4) (r .wr5) v (r .wr7) (r .chosen)
 
 abbrev pub store7 : Registers → ℕ → Registers
-store7 r v = registers (r .wr1) (r .wr2) (r .wr3) (r .wr4) (r .wr5) (r .wr6) v
+store7 r v =
+    registers (r .wr1) (r .wr2) (r .wr3) (r .wr4) (r .wr5) (r .wr6) v (r .chosen)
 
 -- "WR0: D2-0 pointer; D5-3 command ..; D7-6"
 abbrev pub pointerIn : ℕ → ℕ
@@ -68,24 +80,39 @@ entersHunt wr3 = odd (wr3 / 16)
 abbrev pub autoEnables : Registers → Bool
 autoEnables r = odd (r .wr3 / 32)
 
--- "WR4: D0 parity, D1 even, D3-2 stop bits 01 one, 11 two, 00 synchronous; D5-4 10 SDLC."
+-- "WR4: D0 parity, D1 even, D3-2 stop bits 01 one, 11 two, 00 synchronous; D5-4 10 SDLC." 02, P3, and the
+-- chip maker's manual: D5-4 00 Monosync, 01 Bisync
 abbrev pub stopField : ℕ → ℕ
 stopField wr4 = wr4 / 4 % 4
 
 abbrev pub synchronousField : ℕ → ℕ
 synchronousField wr4 = wr4 / 16 % 4
 
--- a reset leaves WR4 zero, which no accepted write does: no mode
 unfoldable pub modeOf : ℕ → Mode
 modeOf wr4 =
-    if eqb (stopField wr4) 0 then (if eqb (synchronousField wr4) 2 then Sdlc else NoMode)
+    if eqb (stopField wr4) 0
+    then (if eqb (synchronousField wr4) 2 then Sdlc
+    else (if eqb (synchronousField wr4) 1 then Bisync else Monosync))
     else Asynchronous
 
--- refusal 3: "a WR4 write with D7-6 not 00, or D3-2 = 10, or D3-2 = 00 and D5-4 not 10"
+-- a reset "zeroes the WRs" and "leaves no mode"; a WR4 of zero, once it is written, is Monosync
+abbrev pub modeIn : Registers → Mode
+modeIn r = if r .chosen then modeOf (r .wr4) else NoMode
+
+-- refusal 3: "a WR4 write with D7-6 not 00, or D3-2 = 10, or D3-2 = 00 and D5-4" external sync; 02, P3:
+-- "3 no longer for these two at clock factor 1; external sync, and a higher factor in either, keep it"
 unfoldable pub notBuilt : ℕ → Bool
 notBuilt wr4 =
     not (eqb (wr4 / 64) 0)
-    || (eqb (stopField wr4) 2 || (eqb (stopField wr4) 0 && not (eqb (synchronousField wr4) 2)))
+    || (eqb (stopField wr4) 2 || (eqb (stopField wr4) 0 && eqb (synchronousField wr4) 3))
+
+-- 02, P3: "Monosync sends WR6 and matches WR7; Bisync uses WR6 then WR7 for both"; "WR5 D2 = 1 chooses
+-- x^16+x^15+x^2+1"
+abbrev pub syncsIn : Registers → Syncs
+syncsIn r = syncs (eqb (synchronousField (r .wr4)) 1) (r .wr6) (r .wr7)
+
+abbrev pub polynomialIn : Registers → ℕ
+polynomialIn r = polynomialOf (odd (r .wr5 / 4))
 
 -- "Lengths: 00 five, 01 seven, 10 six, 11 eight."
 unfoldable pub lengthOf : ℕ → ℕ
@@ -107,7 +134,7 @@ sends r l = odd (r .wr5 / 8) && (not (autoEnables r) || l .cts)
 -- "WR5: D0 Tx check included, D3 on, D4 break, D6-5 length."
 unfoldable pub sendingOf : Registers → Lines → Sending
 sendingOf r l = record {
-  mode = modeOf (r .wr4);
+  mode = modeIn r;
   broken = odd (r .wr5 / 16);
   framing = record { on = sends r l; included = odd (r .wr5) };
   typing = record {
@@ -115,13 +142,16 @@ sendingOf r l = record {
     format = formatOf r (r .wr5 / 32 % 4);
     stops = stopsOf (r .wr4);
   };
+  syncing = syncing (sends r l) (odd (r .wr5)) (polynomialIn r) (syncsIn r);
 }
 
--- 01, Receiving: "On means WR3 D0 and, with auto enables, DCD." "WR6: address."
+-- 01, Receiving: "On means WR3 D0 and, with auto enables, DCD." "WR6: address." 02, P3: "WR3 D1 keeps
+-- leading sync characters out of the queue"; a character enters the check "if WR3 D3 is set"
 unfoldable pub receivingOf : Registers → Lines → Receiving
 receivingOf r l = record {
-  mode = modeOf (r .wr4);
+  mode = modeIn r;
   on = odd (r .wr3) && (not (autoEnables r) || l .dcd);
   addressing = record { search = odd (r .wr3 / 4); address = r .wr6 };
   format = formatOf r (r .wr3 / 64);
+  matching = matching (syncsIn r) (odd (r .wr3 / 2)) (odd (r .wr3 / 8)) (polynomialIn r);
 }

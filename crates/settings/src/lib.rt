@@ -1,6 +1,10 @@
 // 01, Registers: the write registers as written, and what they say. Each bit is named once. Assumes nothing.
 use asynchronous::Format;
 use asynchronous::Typing;
+use bytesync::Matching;
+use bytesync::Syncing;
+use bytesync::Syncs;
+use bytesync::polynomial_of;
 use common::Mode;
 use receiver::Receiving;
 use sdlc::Addressing;
@@ -8,9 +12,10 @@ use sdlc::Framing;
 use sender::Sending;
 ghost use mathlib.Core.Path.{_≡_};
 ghost use Rattle.settings.specs.Settings.{pointerIn, commandIn, presetIn, externalOn, transmitOn, statusAffects, receiveMode, entersHunt};
-ghost use Rattle.settings.specs.Settings.{modeOf, notBuilt, lengthOf, stopsOf, autoEnables, formatOf, sends, sendingOf, receivingOf};
+ghost use Rattle.settings.specs.Settings.{modeOf, modeIn, syncsIn, polynomialIn, notBuilt};
+ghost use Rattle.settings.specs.Settings.{lengthOf, stopsOf, autoEnables, formatOf, sends, sendingOf, receivingOf};
 
-// WR1 to WR7 as they were written; WR2 in channel B alone.
+// WR1 to WR7 as they were written; WR2 in channel B alone. chosen: since the last reset a WR4 has chosen a mode.
 pub struct Registers {
     pub wr1: u8,
     pub wr2: u8,
@@ -19,6 +24,7 @@ pub struct Registers {
     pub wr5: u8,
     pub wr6: u8,
     pub wr7: u8,
+    pub chosen: bool,
 }
 
 // The two inputs of a channel beside its line; true is on.
@@ -83,7 +89,7 @@ pub fn enters_hunt(wr3: u8) -> bool
     wr3 / 16 % 2 == 1
 }
 
-// The mode that this WR4 chose.
+// The mode that this WR4 chooses.
 pub fn mode_of(wr4: u8) -> Mode
     ensures { λ r. ⌜ r ≡ modeOf wr4 ⌝ }
 {
@@ -91,7 +97,10 @@ pub fn mode_of(wr4: u8) -> Mode
         if wr4 / 16 % 4 == 2 {
             return Mode::Sdlc;
         }
-        return Mode::NoMode;
+        if wr4 / 16 % 4 == 1 {
+            return Mode::Bisync;
+        }
+        return Mode::Monosync;
     }
     Mode::Asynchronous
 }
@@ -101,7 +110,7 @@ pub fn not_built(wr4: u8) -> bool
     ensures { λ r. ⌜ r ≡ notBuilt wr4 ⌝ }
 {
     let stops = wr4 / 4 % 4;
-    (wr4 / 64 != 0) | ((stops == 2) | ((stops == 0) & (wr4 / 16 % 4 != 2)))
+    (wr4 / 64 != 0) | ((stops == 2) | ((stops == 0) & (wr4 / 16 % 4 == 3)))
 }
 
 // The number of bits that a length's two bits name.
@@ -124,6 +133,34 @@ fn stops_of(wr4: u8) -> u8
 }
 
 impl Registers {
+    // The mode; none until a WR4 has chosen one.
+    pub fn mode(self) -> Mode
+        ensures { λ r. ⌜ r ≡ modeIn self ⌝ }
+    {
+        if self.chosen {
+            return mode_of(self.wr4);
+        }
+        Mode::NoMode
+    }
+
+    // The sync characters.
+    fn syncs(self) -> Syncs
+        ensures { λ r. ⌜ r ≡ syncsIn self ⌝ }
+    {
+        Syncs {
+            both: self.wr4 / 16 % 4 == 1,
+            first: self.wr6,
+            second: self.wr7,
+        }
+    }
+
+    // The polynomial of Monosync and Bisync.
+    fn polynomial(self) -> u16
+        ensures { λ r. ⌜ r ≡ polynomialIn self ⌝ }
+    {
+        polynomial_of(self.wr5 / 4 % 2 == 1)
+    }
+
     // On takes the line with it.
     fn auto_enables(self) -> bool
         ensures { λ r. ⌜ r ≡ autoEnables self ⌝ }
@@ -155,7 +192,7 @@ impl Registers {
     {
         let on = self.sends(l);
         Sending {
-            mode: mode_of(self.wr4),
+            mode: self.mode(),
             broken: self.wr5 / 16 % 2 == 1,
             framing: Framing {
                 on,
@@ -166,6 +203,12 @@ impl Registers {
                 format: self.format(self.wr5 / 32 % 4),
                 stops: stops_of(self.wr4),
             },
+            syncing: Syncing {
+                on,
+                included: self.wr5 % 2 == 1,
+                polynomial: self.polynomial(),
+                syncs: self.syncs(),
+            },
         }
     }
 
@@ -174,13 +217,19 @@ impl Registers {
         ensures { λ r. ⌜ r ≡ receivingOf self l ⌝ }
     {
         Receiving {
-            mode: mode_of(self.wr4),
+            mode: self.mode(),
             on: (self.wr3 % 2 == 1) & (!self.auto_enables() | l.dcd),
             addressing: Addressing {
                 search: self.wr3 / 4 % 2 == 1,
                 address: self.wr6,
             },
             format: self.format(self.wr3 / 64),
+            matching: Matching {
+                syncs: self.syncs(),
+                strip: self.wr3 / 2 % 2 == 1,
+                checking: self.wr3 / 8 % 2 == 1,
+                polynomial: self.polynomial(),
+            },
         }
     }
 }

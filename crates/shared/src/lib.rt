@@ -1,7 +1,10 @@
-// 01, Sending: what the senders of all modes share, the buffer, the underrun latch and the check. Assumes nothing.
+// 01, Sending: what the senders of all modes share, the buffer, the underrun latch and the check; and what presets a check. Assumes nothing.
+use common::Mode;
+use common::in_blocks;
 use line::ONES;
 use line::check_byte;
 ghost use mathlib.Core.Path.{_≡_};
+ghost use Rattle.shared.specs.Preset.{presetFor};
 ghost use Rattle.shared.specs.Shared.{sharedAtReset, filled, emptied, latched, cleared, checkSet, entered};
 
 // latch: Underrun/EOM, RR0 D6.
@@ -10,6 +13,16 @@ pub struct Shared {
     pub full: bool,
     pub latch: bool,
     pub check: u16,
+}
+
+// A preset check of Monosync and Bisync.
+const ZEROS: u16 = 0;
+
+// What WR0's presets load.
+pub fn preset_for(mode: Mode) -> u16
+    ensures { λ r. ⌜ r ≡ presetFor mode ⌝ }
+{
+    if in_blocks(mode) { ZEROS } else { ONES }
 }
 
 impl Shared {

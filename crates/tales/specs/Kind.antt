@@ -2,9 +2,9 @@
 use mathlib.Core.Bool.{Bool, not, _&&_}
 use Prim.Native.Nat.{ℕ}
 use lib.Dec.{eqb}
-use Rattle.settings.specs.Settings.{commandIn, modeOf}
+use Rattle.common.specs.Mode.{sameMode}
+use Rattle.settings.specs.Settings.{commandIn, presetIn, modeIn}
 use Rattle.channel.specs.declared.Channel.{Channel}
-use Rattle.channel.specs.Control.{sameMode}
 use Rattle.chip.specs.Event.{Event, HardReset, ControlWrite, ControlRead, DataWrite, DataRead}
 use Rattle.chip.specs.Event.{Transmit, Receive, SetLines, Acknowledge, Reti}
 
@@ -86,6 +86,11 @@ abbrev pub isCommand : ℕ → ℕ → Channel → Event → Bool
 isCommand ch k was e =
     isControl ch e && (eqb (was .pointer) 0 && eqb (commandIn (valueOf e)) k)
 
+-- the same with this code of D7-6
+abbrev pub isPreset : ℕ → ℕ → Channel → Event → Bool
+isPreset ch k was e =
+    isControl ch e && (eqb (was .pointer) 0 && eqb (presetIn (valueOf e)) k)
+
 -- this register of a channel as it was
 abbrev pub isWrite : ℕ → ℕ → Channel → Event → Bool
 isWrite ch wr was e = isControl ch e && eqb (was .pointer) wr
@@ -94,4 +99,4 @@ isWrite ch wr was e = isControl ch e && eqb (was .pointer) wr
 abbrev pub isChange : ℕ → Channel → Event → Channel → Bool
 isChange ch was e is =
     isWrite ch 4 was e
-    && not (sameMode (modeOf (was .registers .wr4)) (modeOf (is .registers .wr4)))
+    && not (sameMode (modeIn (was .registers)) (modeIn (is .registers)))

@@ -9,6 +9,7 @@ use Rattle.queue.specs.Queue.{queue}
 use Rattle.shared.specs.Shared.{shared}
 use Rattle.asynchronous.specs.declared.Character.{Character}
 use Rattle.asynchronous.specs.declared.Assembly.{Assembly}
+use Rattle.bytesync.specs.declared.Reception.{Reception}
 use Rattle.sdlc.specs.declared.LineUnit.{LineUnit}
 use Rattle.sdlc.specs.declared.Content.{Content}
 use Rattle.sdlc.specs.declared.Chars.{Chars}
@@ -16,7 +17,7 @@ use Rattle.sdlc.specs.Hearing.{content}
 use Rattle.sender.specs.Sender.{sender, withShared}
 use Rattle.receiver.specs.Receiver.{receiver}
 use Rattle.status.specs.Status.{status}
-use Rattle.settings.specs.Settings.{store1, store3, store4, store5}
+use Rattle.settings.specs.Settings.{store1, store3, store4, store5, store6}
 use Rattle.channel.specs.declared.Channel.{Channel}
 use Rattle.channel.specs.Channel.{withRegisters, withSender, withReceiver, withQueue, withStatus}
 
@@ -34,22 +35,25 @@ withWr4 c v = withRegisters c (store4 (c .registers) v)
 abbrev pub withWr5 : Channel → ℕ → Channel
 withWr5 c v = withRegisters c (store5 (c .registers) v)
 
+abbrev pub withWr6 : Channel → ℕ → Channel
+withWr6 c v = withRegisters c (store6 (c .registers) v)
+
 -- The sender
 
 abbrev pub withUnit : Channel → LineUnit → Channel
 withUnit c u =
     let s = c .sender in
-    withSender c (sender u (s .insertion) (s .character) (s .shared))
+    withSender c (sender u (s .insertion) (s .character) (s .block) (s .shared))
 
 abbrev pub withInsertion : Channel → Insertion → Channel
 withInsertion c i =
     let s = c .sender in
-    withSender c (sender (s .unit) i (s .character) (s .shared))
+    withSender c (sender (s .unit) i (s .character) (s .block) (s .shared))
 
 abbrev pub withCharacter : Channel → Character → Channel
 withCharacter c k =
     let s = c .sender in
-    withSender c (sender (s .unit) (s .insertion) k (s .shared))
+    withSender c (sender (s .unit) (s .insertion) k (s .block) (s .shared))
 
 abbrev pub withBuffer : Channel → ℕ → Bool → Channel
 withBuffer c v f =
@@ -71,12 +75,17 @@ withSentCheck c x =
 abbrev pub withContent : Channel → Content → Channel
 withContent c t =
     let v = c .receiver in
-    withReceiver c (receiver t (v .assembly) (v .check) (v .broken))
+    withReceiver c (receiver t (v .assembly) (v .reception) (v .check) (v .broken))
 
 abbrev pub withAssembly : Channel → Assembly → Channel
 withAssembly c a =
     let v = c .receiver in
-    withReceiver c (receiver (v .content) a (v .check) (v .broken))
+    withReceiver c (receiver (v .content) a (v .reception) (v .check) (v .broken))
+
+abbrev pub withReception : Channel → Reception → Channel
+withReception c r =
+    let v = c .receiver in
+    withReceiver c (receiver (v .content) (v .assembly) r (v .check) (v .broken))
 
 -- the parity that a character under way is judged by
 abbrev pub withParity : Channel → Bool → Bool → Channel
@@ -93,11 +102,16 @@ withParity c p e =
       even = e;
     })
 
+abbrev pub withHeardCheck : Channel → ℕ → Channel
+withHeardCheck c k =
+    let v = c .receiver in
+    withReceiver c (receiver (v .content) (v .assembly) (v .reception) k (v .broken))
+
 -- D7 of RR0, as it now is
 abbrev pub withBroken : Channel → Bool → Channel
 withBroken c x =
     let v = c .receiver in
-    withReceiver c (receiver (v .content) (v .assembly) (v .check) x)
+    withReceiver c (receiver (v .content) (v .assembly) (v .reception) (v .check) x)
 
 abbrev pub withHunt : Channel → Bool → Channel
 withHunt c h =

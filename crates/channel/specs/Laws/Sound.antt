@@ -3,7 +3,7 @@ use mathlib.Core.Bool.{Bool, true, false, _&&_}
 use Prim.Native.Nat.{ℕ, _≤_}
 use native.Mathlib.Omega.{arith}
 use lib.Dec.{eqb}
-use Rattle.common.specs.Mode.{inSdlc}
+use Rattle.common.specs.Mode.{synchronous, sameMode}
 use Rattle.common.specs.Tools.{if-elim}
 use Rattle.queue.specs.declared.Queue.{Queue}
 use Rattle.queue.specs.Queue.{taken, waits, errorReset}
@@ -20,7 +20,7 @@ use Rattle.receiver.specs.Sound.{SoundReceiver}
 use Rattle.receiver.specs.Laws.Sound as receivers
 use Rattle.settings.specs.declared.Lines.{Lines}
 use Rattle.settings.specs.Settings.{store5, store6, store7, commandIn, presetIn}
-use Rattle.settings.specs.Settings.{pointerIn, entersHunt, modeOf, notBuilt, sendingOf, receivingOf}
+use Rattle.settings.specs.Settings.{pointerIn, entersHunt, modeOf, modeIn, notBuilt, sendingOf, receivingOf}
 use Rattle.channel.specs.declared.Side.{Side}
 use Rattle.channel.specs.declared.Side.the-variants.{A, B}
 use Rattle.channel.specs.declared.Channel.{Channel}
@@ -28,7 +28,7 @@ use Rattle.channel.specs.declared.Answered.{Answered}
 use Rattle.channel.specs.Channel.{withRegisters, withSender, withReceiver, withQueue, withLines}
 use Rattle.channel.specs.Channel.{withPointer, settled, resetWith}
 use Rattle.channel.specs.Control.{commanded, preset, commandStep, presetStep, writeWr0, setWr1}
-use Rattle.channel.specs.Control.{setWr2, setWr3, sameMode, setWr4, setRegister, controlWritten}
+use Rattle.channel.specs.Control.{setWr2, setWr3, setWr4, setRegister, controlWritten}
 use Rattle.channel.specs.Control.{controlRead}
 use Rattle.channel.specs.Events.{dataWritten, dataRead, afterTick, transmitTick, queued, heardBy}
 use Rattle.channel.specs.Events.{receiveTick, linesSet}
@@ -84,10 +84,11 @@ commanded-sound c k h =
 preset-sound : (c : Channel) (k : ℕ) → SoundChannel c → SoundChannel (preset c k)
 unfolding preset
 preset-sound c k h =
+    let m = modeIn (c .registers) in
     if-elim SoundChannel (eqb k 1)
-    (receiver-sound c (presetCheck (c .receiver)) h (receivers.preset-check-sound (c .receiver) (h .receiver)))
+    (receiver-sound c (presetCheck m (c .receiver)) h (receivers.preset-check-sound m (c .receiver) (h .receiver)))
     (if-elim SoundChannel (eqb k 2)
-    (sender-sound c (checkPreset (c .sender)) h (senders.preset-sound (c .sender) (h .sender)))
+    (sender-sound c (checkPreset m (c .sender)) h (senders.preset-sound m (c .sender) (h .sender)))
     (if-elim SoundChannel (eqb k 3)
     (sender-sound c (latchCleared (c .sender)) h (senders.clear-sound (c .sender) (h .sender))) h))
 
@@ -102,16 +103,16 @@ wr0-sound c v h =
 
 wr3-sound : (c : Channel) (v : ℕ) → SoundChannel c → SoundChannel (setWr3 c v)
 wr3-sound c v h =
-    if-elim SoundChannel (entersHunt v && inSdlc (modeOf (c .registers .wr4)))
+    if-elim SoundChannel (entersHunt v && synchronous (modeIn (c .registers)))
     (receiver-sound c (enterHunt (c .receiver)) h (receivers.enter-hunt-sound (c .receiver))) h
 
 wr4-sound : (c : Channel) (v : ℕ) → SoundChannel c → SoundChannel (setWr4 c v)
 unfolding setWr4
 wr4-sound c v h =
-    if-elim SoundChannel (sameMode (modeOf (c .registers .wr4)) (modeOf v)) h
+    if-elim SoundChannel (sameMode (modeIn (c .registers)) (modeOf v)) h
     (record {
       sender = senders.idle-sound (c .sender);
-      receiver = receivers.mode-changed-sound (c .receiver) (inSdlc (modeOf v));
+      receiver = receivers.mode-changed-sound (c .receiver) (synchronous (modeOf v));
       queue = h .queue;
       pointer = h .pointer;
     })

@@ -3,10 +3,10 @@
 use mathlib.Core.Path.{_≡_, refl, sym, ap, _∙_}
 use mathlib.Core.Bool.{Bool, true, false, not, _&&_, _||_}
 use Rattle.common.specs.Choice.{if_then_else_}
-use Rattle.common.specs.Mode.{inSdlc}
+use Rattle.common.specs.Mode.{inSdlc, inBlocks}
 use Rattle.common.specs.Tools.{by-test, void, both-left, both-right, not-true}
 use Rattle.common.specs.declared.Mode.{Mode}
-use Rattle.common.specs.declared.Mode.the-variants.{NoMode, Asynchronous, Sdlc}
+use Rattle.common.specs.declared.Mode.the-variants.{NoMode, Asynchronous, Monosync, Bisync, Sdlc}
 use Rattle.line.specs.Bits.{oneIf}
 use Rattle.line.specs.Check.{differs}
 use Rattle.sdlc.specs.declared.Framed.{Framed}
@@ -102,6 +102,8 @@ sent-on c t l e =
 in-sdlc : (m : Mode) → inSdlc m ≡ true → m ≡ Sdlc
 in-sdlc NoMode e = void e
 in-sdlc Asynchronous e = void e
+in-sdlc Monosync e = void e
+in-sdlc Bisync e = void e
 in-sdlc Sdlc e = refl
 
 pub tick-within : (g : Sending) (s : Sender) → sendsWithin g s ≡ true
@@ -129,7 +131,7 @@ heard-on : (c : Channel) (b : Bool) → c .receiver .content .hunt ≡ false
 unfolding settled liveOf movedOn
 heard-on c b e =
     let g = receivingOf (c .registers) (c .lines) in
-    ap (λ (h : Bool). withStatus (heardWithin c b) (noticed (c .status) (liveOf c) (live (inSdlc (g .mode) && h))))
+    ap (λ (h : Bool). withStatus (heardWithin c b) (noticed (c .status) (liveOf c) (live ((inSdlc (g .mode) && h) || (inBlocks (g .mode) && c .receiver .reception .hunt)))))
     (sym e)
     ∙ ap (λ (s : Status). withStatus (heardWithin c b) s) (noticed-same (c .status) (liveOf c))
   where

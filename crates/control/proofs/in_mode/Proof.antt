@@ -7,14 +7,14 @@ use Rattle.control.proofs.in_mode.Tie as tie
 idle-requires : tie.Need-idle-requires
 idle-requires c κs = search needs
 
-in-sdlc-requires : tie.Need-in-sdlc-requires
-in-sdlc-requires c κs = search needs
+hunts-requires : tie.Need-hunts-requires
+hunts-requires c κs = search needs
 
 mode-changed-requires : tie.Need-mode-changed-requires
 mode-changed-requires c κs = search needs
 
 returns : tie.Need-returns
-returns c = simp (tests, c .mode-changed .ensures, ← c .before .in-sdlc .ensures, ← c .before .before .idle .ensures)
+returns c = simp (tests, c .mode-changed .ensures, ← c .before .hunts .ensures, ← c .before .before .idle .ensures)
 
 pub in-mode-spec : {M : Type 1} → statement M
-in-mode-spec = tie.close (tie.spec idle-requires in-sdlc-requires mode-changed-requires returns)
+in-mode-spec = tie.close (tie.spec idle-requires hunts-requires mode-changed-requires returns)

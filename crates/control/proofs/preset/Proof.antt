@@ -5,8 +5,14 @@ use borrow.Author.Needs.{needs}
 use Rattle.control.proofs.preset.Statement.{statement}
 use Rattle.control.proofs.preset.Tie as tie
 
+mode-requires : tie.Need-mode-requires
+mode-requires c κs = search needs
+
 preset-check-requires : tie.Need-preset-check-requires
 preset-check-requires c κs = search needs
+
+mode-requires-2 : tie.Need-mode-requires-2
+mode-requires-2 c κs = search needs
 
 preset-check-requires-2 : tie.Need-preset-check-requires-2
 preset-check-requires-2 c κs = search needs
@@ -16,11 +22,11 @@ clear-latch-requires c κs = search needs
 
 returns : tie.Need-returns
 unfolding preset
-returns c = simp (tests, c .preset-check .ensures, c .before .match .keys1)
+returns c = simp (tests, c .preset-check .ensures, c .before .before .match .keys1, ← c .before .mode .ensures)
 
 returns-2 : tie.Need-returns-2
 unfolding preset
-returns-2 c = simp (tests, c .preset-check2 .ensures, c .before .match .keys2)
+returns-2 c = simp (tests, c .preset-check2 .ensures, c .before .before .match .keys2, ← c .before .mode2 .ensures)
 
 returns-3 : tie.Need-returns-3
 unfolding preset
@@ -34,7 +40,9 @@ pub preset-spec : {M : Type 1} → statement M
 preset-spec =
     tie.close
     (tie.spec
+    mode-requires
     preset-check-requires
+    mode-requires-2
     preset-check-requires-2
     clear-latch-requires
     returns

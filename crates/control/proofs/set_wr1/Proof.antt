@@ -1,3 +1,4 @@
+-- `control::set_wr1` meets its contract: each return by the facts on its way. Assumes nothing.
 use Rattle.control.proofs.Branch.{tests}
 use borrow.Author.Needs.{needs}
 use Rattle.control.proofs.set_wr1.Statement.{statement}

@@ -7,28 +7,28 @@ use Rattle.control.proofs.set_wr3.Tie as tie
 enters-hunt-requires : tie.Need-enters-hunt-requires
 enters-hunt-requires c κs = search needs
 
-mode-of-requires : tie.Need-mode-of-requires
-mode-of-requires c κs = search needs
+mode-requires : tie.Need-mode-requires
+mode-requires c κs = search needs
 
-in-sdlc-requires : tie.Need-in-sdlc-requires
-in-sdlc-requires c κs = search needs
+hunts-requires : tie.Need-hunts-requires
+hunts-requires c κs = search needs
 
 enter-hunt-requires : tie.Need-enter-hunt-requires
 enter-hunt-requires c κs = search needs
 
 returns : tie.Need-returns
-returns c = simp (tests, c .enter-hunt .ensures, c .before .if1 .taken, ← c .before .before .in-sdlc .ensures, ← c .before .before .before .mode-of .ensures, ← c .before .before .before .before .enters-hunt .ensures)
+returns c = simp (tests, c .enter-hunt .ensures, c .before .if1 .taken, ← c .before .before .hunts .ensures, ← c .before .before .before .mode .ensures, ← c .before .before .before .before .enters-hunt .ensures)
 
 returns-2 : tie.Need-returns-2
-returns-2 c = simp (tests, c .if1 .left, ← c .before .in-sdlc .ensures, ← c .before .before .mode-of .ensures, ← c .before .before .before .enters-hunt .ensures)
+returns-2 c = simp (tests, c .if1 .left, ← c .before .hunts .ensures, ← c .before .before .mode .ensures, ← c .before .before .before .enters-hunt .ensures)
 
 pub set-wr3-spec : {M : Type 1} → statement M
 set-wr3-spec =
     tie.close
     (tie.spec
     enters-hunt-requires
-    mode-of-requires
-    in-sdlc-requires
+    mode-requires
+    hunts-requires
     enter-hunt-requires
     returns
     returns-2)

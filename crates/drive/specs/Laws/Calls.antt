@@ -10,10 +10,11 @@ use Rattle.common.specs.Choice.{if_then_else_}
 use Rattle.common.specs.Mode.{inSdlc}
 use Rattle.common.specs.Tools.{by-test, void, both-left, both-right, not-true}
 use Rattle.common.specs.declared.Mode.{Mode}
-use Rattle.common.specs.declared.Mode.the-variants.{NoMode, Asynchronous, Sdlc}
+use Rattle.common.specs.declared.Mode.the-variants.{NoMode, Asynchronous, Monosync, Bisync, Sdlc}
 use Rattle.line.specs.Bits.{odd, oneIf}
 use Rattle.line.specs.Check.{ones}
 use Rattle.shared.specs.declared.Shared.{Shared}
+use Rattle.shared.specs.Preset.{presetFor}
 use Rattle.shared.specs.Shared.{shared, cleared, checkSet}
 use Rattle.sdlc.specs.declared.LineUnit.the-variants.{Mark}
 use Rattle.sdlc.specs.declared.Framing.{Framing}
@@ -29,7 +30,7 @@ use Rattle.sender.specs.Sender.{framerOf, byFramer, withBreak, tick, aborted}
 use Rattle.sender.specs.Good.{Good}
 use Rattle.sender.specs.Laws.Tick.{tick-sdlc, abort-sdlc}
 use Rattle.settings.specs.declared.Lines.{Lines}
-use Rattle.settings.specs.Settings.{sendingOf, commandIn, modeOf, notBuilt}
+use Rattle.settings.specs.Settings.{sendingOf, commandIn, modeOf, modeIn, notBuilt}
 use Rattle.channel.specs.declared.Side.the-variants.{A}
 use Rattle.channel.specs.declared.Answer.the-variants.{Done}
 use Rattle.channel.specs.declared.Answered.{Answered}
@@ -133,6 +134,10 @@ wr0 c v p e =
 abbrev withShared : Framer → Shared → Framer
 withShared s k = framer (s .unit) (s .insertion) k
 
+mode-in : (c : Chip) → Good (sendingA c) → modeIn (c .a .registers) ≡ Sdlc
+unfolding sendingOf
+mode-in c g = g .sdlc-mode
+
 module _ {c : Chip} {s : Framer} (h : Stands c s) where
   pub preset-stands : Stands (controlA c presetCheck) (withShared s (checkSet (s .shared) ones))
   unfolding writeWr0 commandStep presetStep commanded preset settled
@@ -141,7 +146,10 @@ module _ {c : Chip} {s : Framer} (h : Stands c s) where
       (record {
         pointer = refl;
         good = h .good;
-        sends = ap (λ (x : Framer). withShared x (checkSet (x .shared) ones)) (h .sends);
+        sends =
+            ap (λ (m : Mode). withShared (framerOf (c .a .sender)) (checkSet (c .a .sender .shared) (presetFor m)))
+            (mode-in c (h .good))
+            ∙ ap (λ (x : Framer). withShared x (checkSet (x .shared) ones)) (h .sends);
       })
 
   pub clear-stands : Stands (controlA c clearLatch) (withShared s (cleared (s .shared)))
@@ -195,6 +203,8 @@ pub record AtRest (s : Framer) : Type 0 where
 sdlc-alone : (m : Mode) → inSdlc m ≡ true → m ≡ Sdlc
 sdlc-alone NoMode e = void e
 sdlc-alone Asynchronous e = void e
+sdlc-alone Monosync e = void e
+sdlc-alone Bisync e = void e
 sdlc-alone Sdlc e = refl
 
 can-send : (g : Sending) → canSend g ≡ true → Good g

@@ -6,12 +6,15 @@ use mathlib.Core.List.{List, [], _∷_}
 use Prim.Native.Nat.{ℕ, zero, suc}
 use Rattle.common.specs.Choice.{if_then_else_}
 use Rattle.common.specs.Tools.{if-elim, by-test, void}
+use Rattle.common.specs.Mode.{inBlocks}
+use Rattle.common.specs.declared.Mode.{Mode}
 use Rattle.shared.specs.declared.Shared.{Shared}
 use Rattle.sdlc.specs.declared.LineUnit.{LineUnit}
 use Rattle.sdlc.specs.declared.LineUnit.the-variants.{Mark, Flag, Byte, Check, Abort}
 use Rattle.sdlc.specs.declared.Framer.{Framer}
 use Rattle.sdlc.specs.declared.Framed.{Framed}
-use Rattle.sdlc.specs.Sending.{following, next, noBitLeft, goesOn, going, tickSdlc}
+use Rattle.bytesync.specs.Sending.{sendsCheck}
+use Rattle.sdlc.specs.Sending.{following, next, noBitLeft, goesOn, going, tickSdlc, checking}
 use Rattle.whole.specs.Come.{good, filledWith}
 use Rattle.whole.specs.Laws.Latch.{tick-set}
 use Rattle.sender.specs.declared.Ticked.{Ticked}
@@ -147,6 +150,14 @@ module _ (c : Chip) (p : c .a .pointer ≡ 0) (g : Good (sendingA c))
   bit-with : (s : Framer) → bitA (chipWith c s) ≡ tickSdlc good s .bit
   bit-with s = bit-stands (with-stands s)
 
+  -- in SDLC a check of Monosync or Bisync is none
+  ready-with : (s : Framer) → emptyA (chipWith c s) ≡ takesByte s
+  ready-with s =
+      let blocks = sendsCheck (c .a .sender .block) in
+      d2 (chipWith c s) p
+      ∙ ap (λ (m : Mode). not (s .shared .full) && not (if inBlocks m then blocks else checking (s .unit)))
+      (with-stands s .good .sdlc-mode)
+
   offer-with : (s : Framer) (rest : List ℕ)
       → let y = supply s rest in
       offer (chipWith c s) rest ≡ offered (chipWith c (y .framer)) (y .rest)
@@ -160,7 +171,7 @@ module _ (c : Chip) (p : c .a .pointer ≡ 0) (g : Good (sendingA c))
       let no = ap (λ (y : Chip). offered y (v ∷ rest)) look in
       let written = offered (writeA (lookA x) v) rest in
       let waiting = offered (lookA x) (v ∷ rest) in
-      ap (λ (b : Bool). if b then written else waiting) (d2 x p)
+      ap (λ (b : Bool). if b then written else waiting) (ready-with s)
       ∙ both (takesByte s) yes no
     where
       there : Supplied → Offered

@@ -3,24 +3,25 @@
 use mathlib.Core.Path.{_≡_, refl}
 use mathlib.Core.Bool.{true, false}
 use Prim.Native.Nat.{ℕ}
-use Rattle.settings.specs.Settings.{store4, modeOf, notBuilt}
+use Rattle.common.specs.Mode.{sameMode}
+use Rattle.settings.specs.Settings.{store4, modeOf, modeIn, notBuilt}
 use Rattle.channel.specs.declared.Channel.{Channel}
 use Rattle.channel.specs.declared.Side.{Side}
 use Rattle.channel.specs.Channel.{withRegisters, withPointer, settled}
-use Rattle.channel.specs.Control.{sameMode, inMode, setWr4, setRegister, controlWritten}
+use Rattle.channel.specs.Control.{inMode, setWr4, setRegister, controlWritten}
 use Rattle.effects.specs.Modes.{ModeChanged, ModeKept}
 
 abbrev stored : Channel → ℕ → Channel
 stored c v = withRegisters c (store4 (c .registers) v)
 
 changed-is : (c : Channel) (w : Side) (v : ℕ) → c .pointer ≡ 4 → notBuilt v ≡ false
-    → sameMode (modeOf (c .registers .wr4)) (modeOf v) ≡ false
+    → sameMode (modeIn (c .registers)) (modeOf v) ≡ false
     → controlWritten c w v .channel ≡ withPointer (settled c (inMode (stored c v) (modeOf v))) 0
 unfolding controlWritten setRegister setWr4
 changed-is c w v p n m = rw (p, n, m)
 
 kept-is : (c : Channel) (w : Side) (v : ℕ) → c .pointer ≡ 4 → notBuilt v ≡ false
-    → sameMode (modeOf (c .registers .wr4)) (modeOf v) ≡ true
+    → sameMode (modeIn (c .registers)) (modeOf v) ≡ true
     → controlWritten c w v .channel ≡ withPointer (settled c (stored c v)) 0
 unfolding controlWritten setRegister setWr4
 kept-is c w v p n m = rw (p, n, m)
@@ -33,12 +34,14 @@ changed-so c v = record {
   unit = refl;
   nothing-owed = refl;
   no-character = refl;
+  block = refl;
   buffer = refl;
   full = refl;
   queue = refl;
   d7 = refl;
   character = refl;
   frame = refl;
+  block-heard = refl;
   d6 = refl;
   sent = refl;
   heard = refl;
@@ -62,11 +65,11 @@ kept-so c v = record {
 }
 
 pub mode-changed : (c : Channel) (w : Side) (v : ℕ) → c .pointer ≡ 4 → notBuilt v ≡ false
-    → sameMode (modeOf (c .registers .wr4)) (modeOf v) ≡ false
+    → sameMode (modeIn (c .registers)) (modeOf v) ≡ false
     → ModeChanged v c (controlWritten c w v .channel)
 mode-changed c w v p n m = rw (changed-is c w v p n m) (changed-so c v)
 
 pub mode-kept : (c : Channel) (w : Side) (v : ℕ) → c .pointer ≡ 4 → notBuilt v ≡ false
-    → sameMode (modeOf (c .registers .wr4)) (modeOf v) ≡ true
+    → sameMode (modeIn (c .registers)) (modeOf v) ≡ true
     → ModeKept v c (controlWritten c w v .channel)
 mode-kept c w v p n m = rw (kept-is c w v p n m) (kept-so c v)

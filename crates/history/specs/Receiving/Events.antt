@@ -13,7 +13,6 @@ use Rattle.queue.specs.Queue.{pushed, taken, oldest, waits}
 use Rattle.queue.specs.Holding.{entryIf}
 use Rattle.sdlc.specs.declared.Listened.{Listened}
 use Rattle.sdlc.specs.Hearing.{hearSdlc}
-use Rattle.receiver.specs.declared.Receiving.{Receiving}
 use Rattle.receiver.specs.declared.Heard.{Heard}
 use Rattle.receiver.specs.Receiver.{listenerOf}
 use Rattle.receiver.specs.Laws.Tick.{hear-sdlc}
@@ -31,7 +30,7 @@ use Rattle.chip.specs.Event.{Transmit, Receive, SetLines, Acknowledge, Reti}
 use Rattle.stories.specs.Story.{Which, A, B, number, chan, happens}
 use Rattle.stories.specs.Received.{Role, Hears, Reads, Else, role, isRead, taking, valueIf, valuesOf}
 use Rattle.stories.specs.Received.{tookOf, bytesOf}
-use Rattle.history.specs.Receiving.Side.{Side, side, sideIn, sideOf}
+use Rattle.history.specs.Receiving.Side.{Heeded, heeded, Side, side, sideIn, sideOf}
 use Rattle.common.specs.declared.Refusal.the-variants as refusal
 
 -- what a tick hands over is queued
@@ -53,7 +52,7 @@ Follows w c d Reads = sideOf w d ≡ readSide (sideOf w c)
 Follows w c d Else = Unit
 
 -- SDLC, and on
-pub record Hearing (g : Receiving) : Type 0 where
+pub record Hearing (g : Heeded) : Type 0 where
   pub mode : g .mode ≡ Sdlc
   pub on : g .on ≡ true
 
@@ -61,7 +60,7 @@ heard-in : (c : Channel) (b : Bool) → Hearing (sideIn c .settings) → sideIn 
 unfolding receiveTick settled
 heard-in c b h =
     let g = receivingOf (c .registers) (c .lines) in
-    ap (λ (x : Heard). side (listenerOf (x .receiver)) (queued (c .queue) x) g)
+    ap (λ (x : Heard). side (listenerOf (x .receiver)) (queued (c .queue) x) (heeded g))
     (hear-sdlc g (c .receiver) b (h .mode) (h .on))
 
 tick-follows : (w : Which) (c : Chip) (bit : ℕ) → Hearing (sideOf w c .settings)
@@ -83,7 +82,7 @@ read-in : (c : Channel) → sideIn (dataRead c .channel) ≡ readSide (sideIn c)
 unfolding dataRead
 read-in c =
     by-test (λ (d : Answered). sideIn (d .channel) ≡ readSide (sideIn c)) (waits (c .queue)) (λ e. refl)
-    (λ e. ap (λ (q : Queue). side (listenerOf (c .receiver)) q (receivingOf (c .registers) (c .lines))) (sym (taken-none (c .queue) e)))
+    (λ e. ap (λ (q : Queue). side (listenerOf (c .receiver)) q (heeded (receivingOf (c .registers) (c .lines)))) (sym (taken-none (c .queue) e)))
 
 read-follows : (w : Which) (c : Chip) → Follows w c (happens c (DataRead (number w)) .chip) Reads
 unfolding dataReadCall

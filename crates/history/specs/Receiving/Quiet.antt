@@ -11,7 +11,7 @@ use Rattle.interrupts.specs.declared.Six.{Six}
 use Rattle.interrupts.specs.Interrupts.{acknowledged, ended}
 use Rattle.receiver.specs.Receiver.{listenerOf}
 use Rattle.settings.specs.Settings.{store5, store6, store7, commandIn, presetIn, autoEnables}
-use Rattle.settings.specs.Settings.{modeOf, formatOf, notBuilt, receivingOf}
+use Rattle.settings.specs.Settings.{modeIn, formatOf, notBuilt, receivingOf}
 use Rattle.channel.specs.declared.Channel.{Channel}
 use Rattle.channel.specs.declared.Answered.{Answered}
 use Rattle.channel.specs.Channel.{withRegisters, settled}
@@ -149,7 +149,7 @@ unfolding linesSet settled receivingOf
 lines-kept c d t q =
     let r = c .registers in
     ap (λ (b : Bool). side (listenerOf (c .receiver)) (c .queue) (record {
-      mode = modeOf (r .wr4);
+      mode = modeIn r;
       on = odd (r .wr3) && b;
       addressing = record { search = odd (r .wr3 / 4); address = r .wr6 };
       format = formatOf r (r .wr3 / 64);

@@ -1,6 +1,10 @@
 -- The receiving side of a channel: SDLC's part of its receiver, the queue, and what registers and lines
--- say to the receiver. Assumes nothing.
+-- say to the receiver; what they say to Monosync and Bisync alone is left out. Assumes nothing.
+use mathlib.Core.Bool.{Bool}
+use Rattle.common.specs.declared.Mode.{Mode}
 use Rattle.queue.specs.declared.Queue.{Queue}
+use Rattle.asynchronous.specs.declared.Format.{Format}
+use Rattle.sdlc.specs.declared.Addressing.{Addressing}
 use Rattle.sdlc.specs.declared.Listener.{Listener}
 use Rattle.receiver.specs.declared.Receiving.{Receiving}
 use Rattle.receiver.specs.Receiver.{listenerOf}
@@ -9,16 +13,26 @@ use Rattle.channel.specs.declared.Channel.{Channel}
 use Rattle.chip.specs.declared.Chip.{Chip}
 use Rattle.stories.specs.Story.{Which, chan}
 
+pub record Heeded : Type 0 where
+  pub mode : Mode
+  pub on : Bool
+  pub addressing : Addressing
+  pub format : Format
+
+abbrev pub heeded : Receiving → Heeded
+heeded g = record { mode = g .mode; on = g .on; addressing = g .addressing; format = g .format }
+
 pub record Side : Type 0 where
   pub listener : Listener
   pub queue : Queue
-  pub settings : Receiving
+  pub settings : Heeded
 
-abbrev pub side : Listener → Queue → Receiving → Side
+abbrev pub side : Listener → Queue → Heeded → Side
 side s q g = record { listener = s; queue = q; settings = g }
 
 abbrev pub sideIn : Channel → Side
-sideIn c = side (listenerOf (c .receiver)) (c .queue) (receivingOf (c .registers) (c .lines))
+sideIn c =
+    side (listenerOf (c .receiver)) (c .queue) (heeded (receivingOf (c .registers) (c .lines)))
 
 abbrev pub sideOf : Which → Chip → Side
 sideOf w c = sideIn (chan w c)

@@ -5,9 +5,8 @@ use Prim.Native.Nat.{ℕ, _/_}
 use lib.Dec.{eqb, leb}
 use Rattle.common.specs.Choice.{if_then_else_}
 use Rattle.common.specs.Tools.{if-elim, by-test, void, both-left, both-right}
-use Rattle.common.specs.Mode.{inSdlc}
+use Rattle.common.specs.Mode.{synchronous, sameMode, mode-same}
 use Rattle.common.specs.declared.Mode.{Mode}
-use Rattle.common.specs.declared.Mode.the-variants.{NoMode, Asynchronous, Sdlc}
 use Rattle.line.specs.Bits.{odd}
 use Rattle.sdlc.specs.Sending.{framing}
 use Rattle.sender.specs.Sender.{framerOf, aborted, checkPreset, latchCleared}
@@ -17,13 +16,13 @@ use Rattle.interrupts.specs.Interrupts.{acknowledged, ended}
 use Rattle.settings.specs.declared.Registers.{Registers}
 use Rattle.settings.specs.declared.Lines.{Lines}
 use Rattle.settings.specs.Settings.{store3, store4, store5, commandIn, presetIn, entersHunt}
-use Rattle.settings.specs.Settings.{autoEnables, modeOf, notBuilt, sends, sendingOf}
+use Rattle.settings.specs.Settings.{autoEnables, modeOf, modeIn, notBuilt, sends, sendingOf}
 use Rattle.channel.specs.declared.Side.{Side}
 use Rattle.channel.specs.declared.Channel.{Channel}
 use Rattle.channel.specs.declared.Answered.{Answered}
 use Rattle.channel.specs.Channel.{withRegisters, withSender, settled, resetWith}
 use Rattle.channel.specs.Control.{commanded, preset, commandStep, presetStep, writeWr0, setWr2}
-use Rattle.channel.specs.Control.{setWr3, setWr4, sameMode, setRegister, controlWritten}
+use Rattle.channel.specs.Control.{setWr3, setWr4, setRegister, controlWritten}
 use Rattle.channel.specs.Events.{dataRead, receiveTick, linesSet}
 use Rattle.chip.specs.declared.Chip.{Chip}
 use Rattle.chip.specs.declared.Outcome.{Outcome}
@@ -49,7 +48,7 @@ quietWr0 v = (not (eqb (commandIn v) 1) && not (eqb (commandIn v) 3)) && (not (e
 abbrev pub quietRegister : Registers → ℕ → ℕ → Bool
 quietRegister r p v =
     if eqb p 3 then Bool·beq (odd (v / 32)) (autoEnables r)
-    else (if eqb p 4 then notBuilt v || sameMode (modeOf (r .wr4)) (modeOf v)
+    else (if eqb p 4 then notBuilt v || sameMode (modeIn r) (modeOf v)
     else (if eqb p 5 then Bool·beq (odd v) (odd (r .wr5)) && (Bool·beq (odd (v / 8)) (odd (r .wr5 / 8)) && Bool·beq (odd (v / 16)) (odd (r .wr5 / 16)))
     else true))
 
@@ -82,17 +81,6 @@ beq-same true false e = void e
 beq-same false true e = void e
 beq-same false false e = refl
 
-mode-same : (m n : Mode) → sameMode m n ≡ true → m ≡ n
-mode-same NoMode NoMode e = refl
-mode-same NoMode Asynchronous e = void e
-mode-same NoMode Sdlc e = void e
-mode-same Asynchronous NoMode e = void e
-mode-same Asynchronous Asynchronous e = refl
-mode-same Asynchronous Sdlc e = void e
-mode-same Sdlc NoMode e = void e
-mode-same Sdlc Asynchronous e = void e
-mode-same Sdlc Sdlc e = refl
-
 -- a choice whose test is known to fail
 if-not : {X : Type 0} (P : X → Type 0) (t : Bool) (x : X) {y : X} → not t ≡ true → P y → P (if t then x else y)
 if-not P true x e p = void e
@@ -111,7 +99,7 @@ preset-keeps : (c : Channel) (k : ℕ) → not (eqb k 2) ≡ true → not (eqb k
 unfolding preset
 preset-keeps c k e f =
     if-elim (Keeps c) (eqb k 1) refl
-    (if-not (Keeps c) (eqb k 2) (withSender c (checkPreset (c .sender))) e
+    (if-not (Keeps c) (eqb k 2) (withSender c (checkPreset (modeIn (c .registers)) (c .sender))) e
     (if-not (Keeps c) (eqb k 3) (withSender c (latchCleared (c .sender))) f refl))
 
 wr0-keeps : (c : Channel) (v : ℕ) → quietWr0 v ≡ true → Keeps c (writeWr0 c v)
@@ -133,10 +121,10 @@ heeds m broken on included = record { mode = m; broken = broken; framing = frami
 wr3-keeps : (r : Registers) (l : Lines) (v : ℕ) → Bool·beq (odd (v / 32)) (autoEnables r) ≡ true → heeded (sendingOf (store3 r v) l) ≡ heeded (sendingOf r l)
 unfolding sendingOf
 wr3-keeps r l v q =
-    ap (λ (t : Bool). heeds (modeOf (r .wr4)) (odd (r .wr5 / 16)) (odd (r .wr5 / 8) && (not t || l .cts)) (odd (r .wr5)))
+    ap (λ (t : Bool). heeds (modeIn r) (odd (r .wr5 / 16)) (odd (r .wr5 / 8) && (not t || l .cts)) (odd (r .wr5)))
     (beq-same (odd (v / 32)) (autoEnables r) q)
 
-wr4-keeps : (r : Registers) (l : Lines) (v : ℕ) → modeOf v ≡ modeOf (r .wr4) → heeded (sendingOf (store4 r v) l) ≡ heeded (sendingOf r l)
+wr4-keeps : (r : Registers) (l : Lines) (v : ℕ) → modeOf v ≡ modeIn r → heeded (sendingOf (store4 r v) l) ≡ heeded (sendingOf r l)
 unfolding sendingOf
 wr4-keeps r l v e =
     ap (λ (m : Mode). heeds m (odd (r .wr5 / 16)) (sends r l) (odd (r .wr5))) e
@@ -144,7 +132,7 @@ wr4-keeps r l v e =
 wr5-keeps : (r : Registers) (l : Lines) (v : ℕ) → odd v ≡ odd (r .wr5) → odd (v / 8) ≡ odd (r .wr5 / 8) → odd (v / 16) ≡ odd (r .wr5 / 16)
     → heeded (sendingOf (store5 r v) l) ≡ heeded (sendingOf r l)
 unfolding sendingOf
-wr5-keeps r l v i o b = λ j. heeds (modeOf (r .wr4)) (b j) (o j && (not (autoEnables r) || l .cts)) (i j)
+wr5-keeps r l v i o b = λ j. heeds (modeIn r) (b j) (o j && (not (autoEnables r) || l .cts)) (i j)
 
 set-wr2-keeps : (c : Channel) (s : Side) (v : ℕ) → Keeps c (setWr2 c s v)
 unfolding sendingOf
@@ -154,9 +142,9 @@ set-wr2-keeps c channels.B v = refl
 abbrev sameSender : Channel → Heeded → SenderSide
 sameSender c h = side (framerOf (c .sender)) h
 
-set-wr4-keeps : (c : Channel) (v : ℕ) → sameMode (modeOf (c .registers .wr4)) (modeOf v) ≡ true → Keeps c (setWr4 c v)
+set-wr4-keeps : (c : Channel) (v : ℕ) → sameMode (modeIn (c .registers)) (modeOf v) ≡ true → Keeps c (setWr4 c v)
 unfolding setWr4
-set-wr4-keeps c v q = rw q (ap (sameSender c) (wr4-keeps (c .registers) (c .lines) v (sym (mode-same (modeOf (c .registers .wr4)) (modeOf v) q))))
+set-wr4-keeps c v q = rw q (ap (sameSender c) (wr4-keeps (c .registers) (c .lines) v (sym (mode-same (modeIn (c .registers)) (modeOf v) q))))
 
 register-keeps : (c : Channel) (s : Side) (p v : ℕ) → eqb p 4 && notBuilt v ≡ false → quietRegister (c .registers) p v ≡ true → Keeps c (setRegister c s p v)
 unfolding setRegister sendingOf
@@ -173,7 +161,7 @@ register-keeps c s p v n q =
     three : Bool·beq (odd (v / 32)) (autoEnables r) ≡ true → Keeps c (setWr3 c v)
     three q =
         let k = ap (sameSender c) (wr3-keeps r (c .lines) v q) in
-        if-elim (Keeps c) (entersHunt v && inSdlc (modeOf (r .wr4))) k k
+        if-elim (Keeps c) (entersHunt v && synchronous (modeIn r)) k k
 
     built : (t : Bool) → true && t ≡ false → {u : Bool} → t || u ≡ true → u ≡ true
     built true e q = void (sym e)
@@ -203,7 +191,7 @@ lines-keep : (c : Channel) (dcd cts : Bool) → not (autoEnables (c .registers))
 unfolding linesSet settled sendingOf
 lines-keep c dcd cts q =
     let r = c .registers in
-    ap (λ (t : Bool). sameSender c (heeds (modeOf (r .wr4)) (odd (r .wr5 / 16)) (odd (r .wr5 / 8) && t) (odd (r .wr5))))
+    ap (λ (t : Bool). sameSender c (heeds (modeIn r) (odd (r .wr5 / 16)) (odd (r .wr5 / 8) && t) (odd (r .wr5))))
     (either (autoEnables r) q)
   where
     either : (t : Bool) → not t || Bool·beq cts (c .lines .cts) ≡ true → not t || cts ≡ not t || c .lines .cts

@@ -1,16 +1,17 @@
--- A tick in SDLC while on, and that what it hands over is plain. Assumes nothing.
+-- A tick in SDLC, in Monosync and in Bisync, and that what it hands over is plain. Assumes nothing.
 use mathlib.Core.Path.{_≡_, ap, _∙_}
 use mathlib.Core.Bool.{Bool, true, false}
 use Rattle.common.specs.Tools.{if-elim}
 use Rattle.common.specs.declared.Mode.{Mode}
-use Rattle.common.specs.declared.Mode.the-variants.{Sdlc}
+use Rattle.common.specs.declared.Mode.the-variants.{Monosync, Bisync, Sdlc}
 use Rattle.queue.specs.Holding.{Plain, plain}
 use Rattle.sdlc.specs.Hearing.{hearSdlc}
 use Rattle.sdlc.specs.Laws.Plain as listening
 use Rattle.receiver.specs.declared.Receiving.{Receiving}
 use Rattle.receiver.specs.declared.Receiver.{Receiver}
 use Rattle.receiver.specs.declared.Heard.{Heard}
-use Rattle.receiver.specs.Receiver.{listenerOf, byListener, hearIn, hear}
+use Rattle.receiver.specs.Receiver.{listenerOf, byListener, hearInBlocks}
+use Rattle.receiver.specs.Receiver.{hearIn, hear}
 
 pub hear-sdlc : (g : Receiving) (s : Receiver) (b : Bool) → g .mode ≡ Sdlc → g .on ≡ true
     → hear g s b ≡ byListener s (hearSdlc (g .addressing) (listenerOf s) b)
@@ -25,3 +26,13 @@ unfolding hear
 hear-plain g m s b =
     let e : hear g s b ≡ hearIn Sdlc g s b = ap (λ (k : Mode). hearIn k g s b) m in
     rw e (if-elim PlainHeard (g .on) (listening.hear-plain (g .addressing) (listenerOf s) b) plain)
+
+pub hear-monosync : (g : Receiving) (s : Receiver) (b : Bool) → g .mode ≡ Monosync
+    → hear g s b ≡ hearInBlocks g s b
+unfolding hear
+hear-monosync g s b m = ap (λ (k : Mode). hearIn k g s b) m
+
+pub hear-bisync : (g : Receiving) (s : Receiver) (b : Bool) → g .mode ≡ Bisync
+    → hear g s b ≡ hearInBlocks g s b
+unfolding hear
+hear-bisync g s b m = ap (λ (k : Mode). hearIn k g s b) m

@@ -2,12 +2,13 @@
 use mathlib.Core.Path.{_≡_}
 use mathlib.Core.Bool.{Bool, true, false}
 use Rattle.common.specs.Mode.{inSdlc}
-use Rattle.common.specs.declared.Mode.the-variants.{NoMode, Asynchronous, Sdlc}
+use Rattle.common.specs.declared.Mode.the-variants.{NoMode, Asynchronous, Monosync, Bisync, Sdlc}
 use Rattle.asynchronous.specs.Sending.{tickCharacter}
 use Rattle.sdlc.specs.Sending.{tickSdlc, abortedBy}
 use Rattle.sender.specs.declared.Sender.{Sender}
 use Rattle.sender.specs.declared.Sending.{Sending}
-use Rattle.sender.specs.Sender.{ticked, framerOf, framerIn, byFramer, byTypist, withBreak, tick}
+use Rattle.sender.specs.Sender.{ticked, framerOf, framerIn, byFramer, byTypist, withBreak}
+use Rattle.sender.specs.Sender.{tickInBlocks, tick}
 use Rattle.sender.specs.Sender.{aborted}
 
 module _ (g : Sending) (s : Sender) where
@@ -20,6 +21,14 @@ module _ (g : Sending) (s : Sender) where
       → tick g s ≡ withBreak (g .broken) (byTypist s (tickCharacter (g .typing) (s .character) (s .shared)))
   unfolding tick
   tick-asynchronous m = rw m
+
+  pub tick-monosync : g .mode ≡ Monosync → tick g s ≡ tickInBlocks g s
+  unfolding tick
+  tick-monosync m = rw m
+
+  pub tick-bisync : g .mode ≡ Bisync → tick g s ≡ tickInBlocks g s
+  unfolding tick
+  tick-bisync m = rw m
 
   pub tick-no-mode : g .mode ≡ NoMode → tick g s ≡ ticked true false s
   unfolding tick

@@ -10,11 +10,15 @@ returns c = simp (tests, c .if2 .taken, c .before .if1 .taken)
 
 returns-2 : tie.Need-returns-2
 unfolding modeOf
-returns-2 c = simp (tests, c .if2 .left, c .before .if1 .taken)
+returns-2 c = simp (tests, c .if3 .taken, c .before .if2 .left, c .before .before .if1 .taken)
 
 returns-3 : tie.Need-returns-3
 unfolding modeOf
-returns-3 c = simp (tests, c .if1 .left)
+returns-3 c = simp (tests, c .if3 .left, c .before .if2 .left, c .before .before .if1 .taken)
+
+returns-4 : tie.Need-returns-4
+unfolding modeOf
+returns-4 c = simp (tests, c .if1 .left)
 
 pub mode-of-spec : {M : Type 1} → statement M
-mode-of-spec = tie.close (tie.spec returns returns-2 returns-3)
+mode-of-spec = tie.close (tie.spec returns returns-2 returns-3 returns-4)

@@ -4,6 +4,9 @@ use borrow.Author.Needs.{needs}
 use Rattle.channel.proofs.Channel.rr0.Statement.{statement}
 use Rattle.channel.proofs.Channel.rr0.Tie as tie
 
+sending-requires : tie.Need-sending-requires
+sending-requires c κs = search needs
+
 live-requires : tie.Need-live-requires
 live-requires c κs = search needs
 
@@ -63,12 +66,13 @@ add-result-7 c = search needs
 
 returns : tie.Need-returns
 unfolding rr0
-returns c = simp (c .placed8 .ensures .0, c .before .placed7 .ensures .0, c .before .before .placed6 .ensures .0, c .before .before .before .placed5 .ensures .0, c .before .before .before .before .placed4 .ensures .0, c .before .before .before .before .before .placed3 .ensures .0, c .before .before .before .before .before .before .buffer-ready .ensures, c .before .before .before .before .before .before .before .placed2 .ensures .0, c .before .before .before .before .before .before .before .before .placed .ensures .0, c .before .before .before .before .before .before .before .before .before .waits .ensures, c .before .before .before .before .before .before .before .before .before .before .shown-bits .ensures, c .before .before .before .before .before .before .before .before .before .before .before .live .ensures)
+returns c = simp (c .placed8 .ensures .0, c .before .placed7 .ensures .0, c .before .before .placed6 .ensures .0, c .before .before .before .placed5 .ensures .0, c .before .before .before .before .placed4 .ensures .0, c .before .before .before .before .before .placed3 .ensures .0, c .before .before .before .before .before .before .buffer-ready .ensures, c .before .before .before .before .before .before .before .placed2 .ensures .0, c .before .before .before .before .before .before .before .before .placed .ensures .0, c .before .before .before .before .before .before .before .before .before .waits .ensures, c .before .before .before .before .before .before .before .before .before .before .shown-bits .ensures, c .before .before .before .before .before .before .before .before .before .before .before .live .ensures, c .before .before .before .before .before .before .before .before .before .before .before .before .sending .ensures)
 
 pub rr0-spec : {M : Type 1} → statement M
 rr0-spec =
     tie.close
     (tie.spec
+    sending-requires
     live-requires
     shown-bits-requires
     waits-requires

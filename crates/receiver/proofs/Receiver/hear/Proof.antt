@@ -33,6 +33,18 @@ silent-requires-2 c κs = search needs
 enum-told-3 : tie.Need-enum-told-3
 enum-told-3 c = search needs
 
+hear-block-requires : tie.Need-hear-block-requires
+hear-block-requires c κs = search needs
+
+enum-told-4 : tie.Need-enum-told-4
+enum-told-4 c = search needs
+
+hear-block-requires-2 : tie.Need-hear-block-requires-2
+hear-block-requires-2 c κs = search needs
+
+enum-told-5 : tie.Need-enum-told-5
+enum-told-5 c = search needs
+
 listener-requires : tie.Need-listener-requires
 listener-requires c κs = search needs
 
@@ -44,7 +56,7 @@ by-listener-requires c κs = search needs
 
 returns-2 : tie.Need-returns-2
 unfolding hear
-returns-2 c = simp (tests, c .before .before .before .if2 .taken, c .before .before .before .before .enum-told3 .given .1, ← c .before .hear2 .ensures, ← c .before .before .listener .ensures) (c .by-listener .ensures)
+returns-2 c = simp (tests, c .before .before .before .if2 .taken, c .before .before .before .before .enum-told5 .given .1, ← c .before .hear2 .ensures, ← c .before .before .listener .ensures) (c .by-listener .ensures)
 
 dropped-requires-2 : tie.Need-dropped-requires-2
 dropped-requires-2 c κs = search needs
@@ -62,7 +74,15 @@ returns-4 c = simp (tests, c .before .before .if1 .left, c .before .before .befo
 
 returns-5 : tie.Need-returns-5
 unfolding hear
-returns-5 c = simp (tests, c .before .before .if2 .left, c .before .before .before .enum-told3 .given .1, ← c .before .dropped2 .ensures) (c .silent3 .ensures)
+returns-5 c = simp (tests, c .before .enum-told3 .given .1) (c .hear-block .ensures)
+
+returns-6 : tie.Need-returns-6
+unfolding hear
+returns-6 c = simp (tests, c .before .enum-told4 .given .1) (c .hear-block2 .ensures)
+
+returns-7 : tie.Need-returns-7
+unfolding hear
+returns-7 c = simp (tests, c .before .before .if2 .left, c .before .before .before .enum-told5 .given .1, ← c .before .dropped2 .ensures) (c .silent3 .ensures)
 
 pub hear-spec : {M : Type 1} → statement M
 hear-spec =
@@ -77,6 +97,10 @@ hear-spec =
     dropped-requires
     silent-requires-2
     enum-told-3
+    hear-block-requires
+    enum-told-4
+    hear-block-requires-2
+    enum-told-5
     listener-requires
     hear-requires-2
     by-listener-requires
@@ -85,4 +109,6 @@ hear-spec =
     silent-requires-3
     returns-3
     returns-4
-    returns-5)
+    returns-5
+    returns-6
+    returns-7)

@@ -7,8 +7,11 @@ use Rattle.receiver.proofs.Receiver.hunting.Tie as tie
 in-sdlc-requires : tie.Need-in-sdlc-requires
 in-sdlc-requires c κs = search needs
 
+in-blocks-requires : tie.Need-in-blocks-requires
+in-blocks-requires c κs = search needs
+
 returns : tie.Need-returns
-returns c = simp (tests, ← c .before .in-sdlc .ensures)
+returns c = simp (tests, ← c .before .in-blocks .ensures, ← c .before .before .before .in-sdlc .ensures)
 
 pub hunting-spec : {M : Type 1} → statement M
-hunting-spec = tie.close (tie.spec in-sdlc-requires returns)
+hunting-spec = tie.close (tie.spec in-sdlc-requires in-blocks-requires returns)

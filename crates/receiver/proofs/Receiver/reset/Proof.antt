@@ -10,8 +10,11 @@ at-requires c κs = search needs
 none-requires : tie.Need-none-requires
 none-requires c κs = search needs
 
+searching-requires : tie.Need-searching-requires
+searching-requires c κs = search needs
+
 returns : tie.Need-returns
-returns c = simp (tests, c .none .ensures, ← c .before .at .ensures)
+returns c = simp (tests, c .searching .ensures, ← c .before .none .ensures, ← c .before .before .at .ensures)
 
 pub reset-spec : {M : Type 1} → statement M
-reset-spec = tie.close (tie.spec at-requires none-requires returns)
+reset-spec = tie.close (tie.spec at-requires none-requires searching-requires returns)

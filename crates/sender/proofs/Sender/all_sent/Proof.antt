@@ -7,11 +7,14 @@ use Rattle.sender.proofs.Sender.all_sent.Tie as tie
 in-sdlc-requires : tie.Need-in-sdlc-requires
 in-sdlc-requires c κs = search needs
 
+in-blocks-requires : tie.Need-in-blocks-requires
+in-blocks-requires c κs = search needs
+
 under-way-requires : tie.Need-under-way-requires
 under-way-requires c κs = search needs
 
 returns : tie.Need-returns
-returns c = simp (tests, ← c .before .under-way .ensures, ← c .before .before .in-sdlc .ensures)
+returns c = simp (tests, ← c .before .under-way .ensures, ← c .before .before .in-blocks .ensures, ← c .before .before .before .in-sdlc .ensures)
 
 pub all-sent-spec : {M : Type 1} → statement M
-all-sent-spec = tie.close (tie.spec in-sdlc-requires under-way-requires returns)
+all-sent-spec = tie.close (tie.spec in-sdlc-requires in-blocks-requires under-way-requires returns)

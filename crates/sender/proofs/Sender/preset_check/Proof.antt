@@ -4,6 +4,9 @@ use borrow.Author.Needs.{needs}
 use Rattle.sender.proofs.Sender.preset_check.Statement.{statement}
 use Rattle.sender.proofs.Sender.preset_check.Tie as tie
 
+preset-for-requires : tie.Need-preset-for-requires
+preset-for-requires c κs = search needs
+
 check-set-requires : tie.Need-check-set-requires
 check-set-requires c κs = search needs
 
@@ -11,7 +14,8 @@ with-shared-requires : tie.Need-with-shared-requires
 with-shared-requires c κs = search needs
 
 returns : tie.Need-returns
-returns c = simp (tests, ← c .before .check-set .ensures) (c .with-shared .ensures)
+returns c = simp (tests, ← c .before .check-set .ensures, ← c .before .before .preset-for .ensures) (c .with-shared .ensures)
 
 pub preset-check-spec : {M : Type 1} → statement M
-preset-check-spec = tie.close (tie.spec check-set-requires with-shared-requires returns)
+preset-check-spec =
+    tie.close (tie.spec preset-for-requires check-set-requires with-shared-requires returns)

@@ -26,7 +26,7 @@ returns c =
     (c .with-framer .ensures ∙ ap (framerIn (a .self)) cut)
 
 returns-2 : tie.Need-returns-2
-returns-2 c = search needs
+returns-2 c = rw (← c .before .in-sdlc .ensures, c .if1 .left)
 
 pub send-abort-spec : {M : Type 1} → statement M
 send-abort-spec =

@@ -23,6 +23,18 @@ with-break-requires c κs = search needs
 enum-told-3 : tie.Need-enum-told-3
 enum-told-3 c = search needs
 
+tick-block-requires : tie.Need-tick-block-requires
+tick-block-requires c κs = search needs
+
+enum-told-4 : tie.Need-enum-told-4
+enum-told-4 c = search needs
+
+tick-block-requires-2 : tie.Need-tick-block-requires-2
+tick-block-requires-2 c κs = search needs
+
+enum-told-5 : tie.Need-enum-told-5
+enum-told-5 c = search needs
+
 framer-requires : tie.Need-framer-requires
 framer-requires c κs = search needs
 
@@ -45,7 +57,15 @@ returns-2 c = simp (tests, c .before .before .before .enum-told2 .given .1, ← 
 
 returns-3 : tie.Need-returns-3
 unfolding tick
-returns-3 c = simp (tests, c .before .before .before .before .enum-told3 .given .1, ← c .before .by-framer .ensures, ← c .before .before .tick2 .ensures, ← c .before .before .before .framer .ensures) (c .with-break2 .ensures)
+returns-3 c = simp (tests, c .before .enum-told3 .given .1) (c .tick-block .ensures)
+
+returns-4 : tie.Need-returns-4
+unfolding tick
+returns-4 c = simp (tests, c .before .enum-told4 .given .1) (c .tick-block2 .ensures)
+
+returns-5 : tie.Need-returns-5
+unfolding tick
+returns-5 c = simp (tests, c .before .before .before .before .enum-told5 .given .1, ← c .before .by-framer .ensures, ← c .before .before .tick2 .ensures, ← c .before .before .before .framer .ensures) (c .with-break2 .ensures)
 
 pub tick-spec : {M : Type 1} → statement M
 tick-spec =
@@ -57,10 +77,16 @@ tick-spec =
     by-typist-requires
     with-break-requires
     enum-told-3
+    tick-block-requires
+    enum-told-4
+    tick-block-requires-2
+    enum-told-5
     framer-requires
     tick-requires-2
     by-framer-requires
     with-break-requires-2
     returns
     returns-2
-    returns-3)
+    returns-3
+    returns-4
+    returns-5)

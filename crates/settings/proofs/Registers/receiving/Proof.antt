@@ -5,8 +5,8 @@ use borrow.Author.Needs.{needs}
 use Rattle.settings.proofs.Registers.receiving.Statement.{statement}
 use Rattle.settings.proofs.Registers.receiving.Tie as tie
 
-mode-of-requires : tie.Need-mode-of-requires
-mode-of-requires c κs = search needs
+mode-requires : tie.Need-mode-requires
+mode-requires c κs = search needs
 
 auto-enables-requires : tie.Need-auto-enables-requires
 auto-enables-requires c κs = search needs
@@ -14,10 +14,23 @@ auto-enables-requires c κs = search needs
 format-requires : tie.Need-format-requires
 format-requires c κs = search needs
 
+syncs-requires : tie.Need-syncs-requires
+syncs-requires c κs = search needs
+
+polynomial-requires : tie.Need-polynomial-requires
+polynomial-requires c κs = search needs
+
 returns : tie.Need-returns
 unfolding receivingOf
-returns c = simp (tests, c .format .ensures, ← c .before .before .before .before .auto-enables .ensures, ← c .before .before .before .before .before .before .mode-of .ensures)
+returns c = simp (tests, c .polynomial .ensures, ← c .before .before .before .syncs .ensures, ← c .before .before .before .before .format .ensures, ← c .before .before .before .before .before .before .before .before .auto-enables .ensures, ← c .before .before .before .before .before .before .before .before .before .before .mode .ensures)
 
 pub receiving-spec : {M : Type 1} → statement M
 receiving-spec =
-    tie.close (tie.spec mode-of-requires auto-enables-requires format-requires returns)
+    tie.close
+    (tie.spec
+    mode-requires
+    auto-enables-requires
+    format-requires
+    syncs-requires
+    polynomial-requires
+    returns)

@@ -8,8 +8,8 @@ use Rattle.settings.proofs.Registers.sending.Tie as tie
 sends-requires : tie.Need-sends-requires
 sends-requires c κs = search needs
 
-mode-of-requires : tie.Need-mode-of-requires
-mode-of-requires c κs = search needs
+mode-requires : tie.Need-mode-requires
+mode-requires c κs = search needs
 
 format-requires : tie.Need-format-requires
 format-requires c κs = search needs
@@ -17,10 +17,24 @@ format-requires c κs = search needs
 stops-of-requires : tie.Need-stops-of-requires
 stops-of-requires c κs = search needs
 
+polynomial-requires : tie.Need-polynomial-requires
+polynomial-requires c κs = search needs
+
+syncs-requires : tie.Need-syncs-requires
+syncs-requires c κs = search needs
+
 returns : tie.Need-returns
 unfolding sendingOf
-returns c = simp (tests, c .stops-of .ensures, ← c .before .format .ensures, ← c .before .before .before .before .before .mode-of .ensures, ← c .before .before .before .before .before .before .sends .ensures)
+returns c = simp (tests, c .syncs .ensures, ← c .before .polynomial .ensures, ← c .before .before .before .stops-of .ensures, ← c .before .before .before .before .format .ensures, ← c .before .before .before .before .before .before .before .before .mode .ensures, ← c .before .before .before .before .before .before .before .before .before .sends .ensures)
 
 pub sending-spec : {M : Type 1} → statement M
 sending-spec =
-    tie.close (tie.spec sends-requires mode-of-requires format-requires stops-of-requires returns)
+    tie.close
+    (tie.spec
+    sends-requires
+    mode-requires
+    format-requires
+    stops-of-requires
+    polynomial-requires
+    syncs-requires
+    returns)

@@ -1,0 +1,14 @@
+-- `bytesync::Syncs::leads` meets its contract: each return by the facts on its way. Assumes nothing.
+use Rattle.bytesync.proofs.Branch.{tests}
+use borrow.Author.Needs.{needs}
+use Rattle.bytesync.proofs.Syncs.leads.Statement.{statement}
+use Rattle.bytesync.proofs.Syncs.leads.Tie as tie
+
+expected-requires : tie.Need-expected-requires
+expected-requires c κs = search needs
+
+returns : tie.Need-returns
+returns c = simp (tests, ← c .before .expected .ensures)
+
+pub leads-spec : {M : Type 1} → statement M
+leads-spec = tie.close (tie.spec expected-requires returns)

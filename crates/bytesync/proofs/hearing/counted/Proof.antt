@@ -1,0 +1,17 @@
+-- `bytesync::hearing::counted` meets its contract: each return by the facts on its way. Assumes nothing.
+use Rattle.bytesync.proofs.Branch.{tests}
+use borrow.Author.Needs.{needs}
+use Rattle.bytesync.proofs.hearing.counted.Statement.{statement}
+use Rattle.bytesync.proofs.hearing.counted.Tie as tie
+
+add-result : tie.Need-add-result
+add-result c = search needs
+
+returns : tie.Need-returns
+returns c = simp (tests, c .if1 .taken)
+
+returns-2 : tie.Need-returns-2
+returns-2 c = simp (tests, c .if1 .left)
+
+pub counted-spec : {M : Type 1} → statement M
+counted-spec = tie.close (tie.spec add-result returns returns-2)

@@ -1,0 +1,4 @@
+pub mod Unit
+pub mod Happens
+pub mod Sending
+pub mod Receiving
