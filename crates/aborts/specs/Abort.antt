@@ -22,20 +22,25 @@ use Rattle.history.specs.Receiving.Side as receiving
 use Rattle.history.specs.Receiving.Events.{Hearing}
 use Rattle.hosts.specs.Loaded.{loaded, passed}
 use Rattle.hosts.specs.Line.{every-host}
-use Rattle.aborts.specs.Statement.{Cuts, LeftToRun, abortLine, sent, AbortCuts, AbortUntold, AbortDeaf}
+use Rattle.aborts.specs.Statement.{Cuts, LeftToRun, abortLine, sent, AbortCuts, AbortUntold}
+use Rattle.aborts.specs.Statement.{AbortDeaf}
 use Rattle.aborts.specs.Statement.{waitingOf, Listens, endsTold}
 use Rattle.aborts.specs.Cut.{CutFrom, abort-cut, runs-line}
 use Rattle.aborts.specs.Heard.{cut-silent}
 use Rattle.aborts.specs.Told.{told-few, attends-front}
 
 module _ (w : Which) (c : Chip) (p : ℕ) (xs : List Event) (v : ℕ) (k : Cuts w c p xs v) where
-  pub cut : CutFrom (chan w (after c xs)) (chan w (happens (after c xs) (ControlWrite (number w) v) .chip))
+  pub cut : CutFrom (chan w (after c xs))
+      (chan w (happens (after c xs) (ControlWrite (number w) v) .chip))
   cut =
       let h = every-host w c p xs (k .start) (k .host) in
-      abort-cut w (after c xs) v (k .write) (good-of (sendingIn (chan w (after c xs))) (h .heeds)) (h .uncut)
+      abort-cut w (after c xs) v (k .write) (good-of (sendingIn (chan w (after c xs))) (h .heeds))
+      (h .uncut)
 
-  cut-line : (ys : List Event) → LeftToRun w (happens (after c xs) (ControlWrite (number w) v) .chip) ys
-      → ticks w ys ≤ 16 → lineOf w (after c xs) (ControlWrite (number w) v ∷ ys) ≡ take (ticks w ys) abortLine
+  cut-line : (ys : List Event)
+      → LeftToRun w (happens (after c xs) (ControlWrite (number w) v) .chip) ys
+      → ticks w ys ≤ 16
+      → lineOf w (after c xs) (ControlWrite (number w) v ∷ ys) ≡ take (ticks w ys) abortLine
   cut-line ys f m =
       let h = every-host w c p xs (k .start) (k .host) in
       skip-line w (after c xs) (ControlWrite (number w) v) ys refl
@@ -51,7 +56,8 @@ abort3 w c p xs v k =
       no-end = λ g r zs b f.
           ap (λ (x : List Bool). endMarks (hearAll g (hearAll g r (take 8 x) .listener)
           (drop 8 x ++ (replicate 8 true ++ (zs ++ (b ∷ [])))) .got)) (h .begun)
-          ∙ cut-silent g zs b f r (passed w c xs) (loaded w c xs) (p + ticks w xs) (h .begins) (h .unfinished (k .before));
+          ∙ cut-silent g zs b f r (passed w c xs) (loaded w c xs) (p + ticks w xs) (h .begins)
+          (h .unfinished (k .before));
     }
 
 lead-free : flagFree 7 lead ≡ true
@@ -64,7 +70,8 @@ front-few : (g : Addressing) (s : Listener) (xs ys : List Bool) (n : ℕ)
 front-few g s xs ys n =
     let a = xs ++ take n ys in
     let e : xs ++ ys ≡ a ++ drop n ys =
-    ap (λ (l : List Bool). xs ++ l) (sym (take-append-drop n ys)) ∙ sym (append-assoc xs (take n ys) (drop n ys)) in
+    ap (λ (l : List Bool). xs ++ l) (sym (take-append-drop n ys))
+    ∙ sym (append-assoc xs (take n ys) (drop n ys)) in
     let f = hearAll g s a in
     let more = hearAll g (f .listener) (drop n ys) .got in
     omega (
@@ -74,13 +81,16 @@ front-few g s xs ys n =
       end-marks-join (f .got) more,
     )
 
--- a receiver's story in two parts: the ends told in the second are those that wait before it and those that it hears
-heard-few : (u : Which) (r : Chip) (qs rs : List Event) (first bits : List Bool) → Listens u r (qs ++ rs) → bitsOf u qs ≡ first
+-- a receiver's story in two parts: the ends told in the second are those that wait before it and
+-- those that it hears
+heard-few : (u : Which) (r : Chip) (qs rs : List Event) (first bits : List Bool)
+    → Listens u r (qs ++ rs) → bitsOf u qs ≡ first
     → bitsOf u rs ≡ bits
     → let x = receiving.sideOf u r in
     let g = x .settings .addressing in
     endsTold u (after r qs) rs
-    ≤ endMarks (waitingOf u (after r qs)) + endMarks (hearAll g (hearAll g (x .listener) first .listener) bits .got)
+    ≤ endMarks (waitingOf u (after r qs)) + endMarks
+    (hearAll g (hearAll g (x .listener) first .listener) bits .got)
 heard-few u r qs rs first bits l b d =
     let x = receiving.sideOf u r in
     let g = x .settings .addressing in
@@ -91,7 +101,8 @@ heard-few u r qs rs first bits l b d =
     i .0 .listener ∙ ap (λ (z : List Bool). hearAll g (x .listener) z .listener) b in
     let same : endMarks (hearAll (y .settings .addressing) (y .listener) (bitsOf u rs) .got)
     ≡ endMarks (hearAll g (hearAll g (x .listener) first .listener) bits .got) =
-    ap (λ (z : receiving.Heeded). endMarks (hearAll (z .addressing) (y .listener) (bitsOf u rs) .got)) (i .0 .settings)
+    ap (λ (z : receiving.Heeded). endMarks
+    (hearAll (z .addressing) (y .listener) (bitsOf u rs) .got)) (i .0 .settings)
     ∙ ap₂ (λ (z : Listener) (t : List Bool). endMarks (hearAll g z t .got)) there d in
     omega (arith, told-few u (i .1) hearing, same)
 
@@ -115,6 +126,7 @@ abort-deaf w c p xs v k u r qs rs zs y l b d f =
     let x = receiving.sideOf u r in
     omega (
       arith,
-      heard-few u r qs rs (take 8 (sent w c p xs)) (drop 8 (sent w c p xs) ++ (replicate 8 true ++ (zs ++ (y ∷ [])))) l b d,
+      heard-few u r qs rs (take 8 (sent w c p xs))
+          (drop 8 (sent w c p xs) ++ (replicate 8 true ++ (zs ++ (y ∷ [])))) l b d,
       abort3 w c p xs v k .no-end (x .settings .addressing) (x .listener) zs y f,
     )

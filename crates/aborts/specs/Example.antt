@@ -1,5 +1,6 @@
--- Aborts, computed: amid a byte, inside the opening flag, and by a host whose receiver is not read, so that its queue
--- overflows; and the frame that follows. Then the theorems, said of them. Assumes nothing.
+-- Aborts, computed: amid a byte, inside the opening flag, and by a host whose receiver is not read,
+-- so that its queue overflows; and the frame that follows. Then the theorems, said of them. Assumes
+-- nothing.
 use mathlib.Core.Path.{_≡_, refl}
 use mathlib.Core.Bool.{Bool, true, false}
 use mathlib.Core.List.{List, [], _∷_, _++_}
@@ -31,7 +32,8 @@ use Rattle.aborts.specs.Tests.{free-runs, attending, attends-of}
 
 -- a receiver behind a reset, in SDLC and on, that hears a line: the end marks
 abbrev pub endsIn : List Bool → ℕ
-endsIn line = endMarks (hearAll (receiving.sideOf A begin .settings .addressing) (listenerOf reset) line .got)
+endsIn line =
+    endMarks (hearAll (receiving.sideOf A begin .settings .addressing) (listenerOf reset) line .got)
 
 -- eight bytes are begun, each written when the one before it is loaded
 abbrev pub long : List Event
@@ -50,7 +52,9 @@ abbrev pub firstOf : List Event → List Event
 firstOf xs = unread (take 8 (sent A begin 3 xs))
 
 abbrev pub restOf : List Event → List Event
-restOf xs = unread (drop 8 (sent A begin 3 xs) ++ lineOf A (after begin xs) (ControlWrite 0 sendAbort ∷ gone))
+restOf xs =
+    unread (drop 8 (sent A begin 3 xs)
+    ++ lineOf A (after begin xs) (ControlWrite 0 sendAbort ∷ gone))
 
 abbrev pub cutChip : List Event → Chip
 cutChip xs = happens (after begin xs) (ControlWrite 0 sendAbort) .chip
@@ -66,7 +70,8 @@ pub record Cut (xs : List Event) : Type 0 where
   pub runs : freely A (cutChip xs) gone ≡ true
   pub attends : attending B (listening B) (firstOf xs ++ restOf xs) ≡ true
   pub first-bits : bitsOf B (firstOf xs) ≡ take 8 (sent A begin 3 xs)
-  pub rest-bits : bitsOf B (restOf xs) ≡ drop 8 (sent A begin 3 xs) ++ lineOf A (after begin xs) (ControlWrite 0 sendAbort ∷ gone)
+  pub rest-bits : bitsOf B (restOf xs)
+      ≡ drop 8 (sent A begin 3 xs) ++ lineOf A (after begin xs) (ControlWrite 0 sendAbort ∷ gone)
   pub none-waits : endMarks (waitingOf B (after (listening B) (firstOf xs))) ≡ 0
 
 pub record Examples : Type 0 where
@@ -119,9 +124,14 @@ unheard xs k =
     omega (
       arith,
       k .none-waits,
-      abort-unheard A begin 3 xs gone sendAbort (cuts xs k) (free-runs A (free-of A (cutChip xs) gone (k .runs))) (omega arith) B
+      abort-unheard A begin 3 xs gone sendAbort (cuts xs k)
+          (free-runs A (free-of A (cutChip xs) gone (k .runs))) (omega arith) B
           (listening B) (firstOf xs) (restOf xs)
-          (record { hearing = examples .settings; attends = attends-of B (listening B) (firstOf xs ++ restOf xs) (k .attends) })
+          (record {
+            hearing = examples .settings;
+            attends = attends-of B (listening B)
+                (firstOf xs ++ restOf xs) (k .attends);
+          })
           (k .first-bits) (k .rest-bits),
     )
 
@@ -139,4 +149,5 @@ unfolding flags
 next-sent =
     rw (examples .next-loaded, examples .next-passed) at
     (after-abort A begin 3 begun next sendAbort (cuts begun (examples .amid)) (examples .pointer)
-    (host-of A (after (cutChip begun) (anew A)) next (examples .next-hosted)) .whole (examples .next-closed))
+    (host-of A (after (cutChip begun) (anew A)) next (examples .next-hosted)) .whole
+    (examples .next-closed))

@@ -1,5 +1,5 @@
--- A host that ticks and writes as it likes leaves an abort to run; and a test that a reader can run on a receiver's
--- story. Assumes nothing.
+-- A host that ticks and writes as it likes leaves an abort to run; and a test that a reader can run
+-- on a receiver's story. Assumes nothing.
 use mathlib.Core.Path.{_≡_, refl, ap}
 use mathlib.Core.Bool.{Bool, true, _&&_}
 use mathlib.Core.List.{List, [], _∷_}
@@ -21,12 +21,20 @@ use Rattle.aborts.specs.Statement as stated
 pub free-runs : (w : Which) {c : Chip} {st : List Event} → Free w c st → LeftToRun w c st
 free-runs w hosts.ended = stated.ended
 free-runs w (hosts.still {c = c} {e = x} r k f) =
-    stated.kept (ap ticksBy r)
-    (ap (λ (s : SenderSide). s .sender .unit) k, ap (λ (s : SenderSide). s .sender .insertion .owed) k, ap (λ (s : SenderSide). s .heeds) k) (free-runs w f)
+    stated.kept (ap ticksBy r) (
+      ap (λ (s : SenderSide). s .sender .unit) k,
+      ap (λ (s : SenderSide). s .sender .insertion .owed) k,
+      ap (λ (s : SenderSide). s .heeds) k,
+    )
+    (free-runs w f)
 free-runs w (hosts.writes {c = c} {v = v} f) =
     let k = write-side w c v in
-    stated.kept (write-no-tick w v)
-    (ap (λ (s : SenderSide). s .sender .unit) k, ap (λ (s : SenderSide). s .sender .insertion .owed) k, ap (λ (s : SenderSide). s .heeds) k) (free-runs w f)
+    stated.kept (write-no-tick w v) (
+      ap (λ (s : SenderSide). s .sender .unit) k,
+      ap (λ (s : SenderSide). s .sender .insertion .owed) k,
+      ap (λ (s : SenderSide). s .heeds) k,
+    )
+    (free-runs w f)
 free-runs w (hosts.ticking f) = stated.ticking (free-runs w f)
 
 -- a receiver that hears and is read as it comes
@@ -39,7 +47,8 @@ unfoldable pub attending : Which → Chip → List Event → Bool
 attending u r [] = true
 attending u r (e ∷ st) = heeds u r e (role u e) && attending u (happens r e .chip) st
 
-one-more : (u : Which) (r : Chip) (e : Event) (st : List Event) (x : Role) → role u e ≡ x → heeds u r e x ≡ true
+one-more : (u : Which) (r : Chip) (e : Event) (st : List Event) (x : Role) → role u e ≡ x
+    → heeds u r e x ≡ true
     → Attends u (happens r e .chip) st → Attends u r (e ∷ st)
 one-more u r e st (Hears b) q a h = stated.hears q h
 one-more u r e st Reads q a h = stated.reads q h

@@ -1,5 +1,5 @@
--- Demand 1 of a station's calls: each is refused with the number of the first row that holds, and then chip and lent
--- rows are as before. Assumes nothing.
+-- Demand 1 of a station's calls: each is refused with the number of the first row that holds, and
+-- then chip and lent rows are as before. Assumes nothing.
 use mathlib.Core.Path.{_≡_, refl, sym, _∙_}
 use mathlib.Core.Logic.{_≢_}
 use mathlib.Core.List.{List, [], _∷_}
@@ -16,7 +16,9 @@ use Rattle.chip.specs.Refusals.{firstRow}
 use Rattle.listline.specs.ListLine.{chipAfter}
 use Rattle.station.specs.Station.{sendOf, listedOf}
 use Rattle.refusing.specs.Refusing.{lengthBad, listLong, listNone, readingNumber, list-refused}
-use Rattle.answering.specs.Numbers.{scannedNumber, pagesNumber, toldNumber, listedNumber}
+use Rattle.notes.specs.Scanned.{scannedNumber}
+use Rattle.report.specs.Pages.{pagesNumber}
+use Rattle.station.specs.Answers.{toldNumber, listedNumber}
 
 -- A note: row 6
 
@@ -25,7 +27,8 @@ pub send-refused : (c : Chip) (note : List ℕ)
 unfolding sendOf
 send-refused c note = bool-or (noteFits (length note)) (λ f. rw f) (λ f. rw f)
 
-pub send-kept : (c : Chip) (note : List ℕ) → toldNumber (sendOf c note .told) ≢ 0 → sendOf c note .chip ≡ c
+pub send-kept : (c : Chip) (note : List ℕ) → toldNumber (sendOf c note .told) ≢ 0
+    → sendOf c note .chip ≡ c
 unfolding sendOf
 send-kept c note n = bool-or (noteFits (length note)) (λ f. absurd ((rw f at n) refl)) (λ f. rw f)
 
@@ -44,14 +47,16 @@ pages-number : (b : Between) (r : Reading) → pagesNumber (pagesOf (reported b 
 pages-number b (whole notes) = refl
 pages-number b (refuses k) = refl
 
-listed-number : (b : Between) (r : Reading) → listedNumber (listedOf (reported b r)) ≡ readingNumber r
+listed-number : (b : Between) (r : Reading)
+    → listedNumber (listedOf (reported b r)) ≡ readingNumber r
 listed-number b (whole notes) = refl
 listed-number b (refuses k) = refl
 
 pub scan-refused : (list : List ℕ) → scannedNumber (scanned (readList list)) ≡ listRows list
 scan-refused list = scan-number (readList list) ∙ list-refused list
 
-pub pages-refused : (b : Between) (list : List ℕ) → pagesNumber (pagesOf (reportOf b list)) ≡ listRows list
+pub pages-refused : (b : Between) (list : List ℕ)
+    → pagesNumber (pagesOf (reportOf b list)) ≡ listRows list
 pages-refused b list = pages-number b (readList list) ∙ list-refused list
 
 pub send-list-refused : (b : Between) (list : List ℕ)
@@ -60,7 +65,8 @@ send-list-refused b list = listed-number b (readList list) ∙ list-refused list
 
 -- the chip and the lent rows are then as before
 
-pub send-list-kept : (b : Between) (c : Chip) (list lent : List ℕ) → listedNumber (listedOf (reportOf b list)) ≢ 0
+pub send-list-kept : (b : Between) (c : Chip) (list lent : List ℕ)
+    → listedNumber (listedOf (reportOf b list)) ≢ 0
     → (chipAfter b c (readList list) ≡ c) × (rowsIn lent (reportOf b list) ≡ lent)
 send-list-kept b c list lent = go (readList list)
   where

@@ -80,10 +80,7 @@ fn two_at(bytes: &[u8], i: usize) -> usize
 }
 
 fn all_is(l: Listed, t: Item) -> bool {
-    match l {
-        Listed::All { notes, ticks } => t.is(0, ticks) & (notes == two(t.y, t.z)),
-        Listed::Refused(k) => t.is(k.number(), 0),
-    }
+    t.is(l.number(), l.ticks()) & (l.notes() == two(t.y, t.z))
 }
 
 // How the notes of an item's list follow each other.
@@ -95,10 +92,7 @@ fn between_of(t: Item) -> Between {
 }
 
 fn pages_are(p: Pages, t: Item) -> bool {
-    match p {
-        Pages::Ticks(n) => t.is(0, n),
-        Pages::Refused(k) => t.is(k.number(), 0),
-    }
+    t.is(p.number(), p.ticks())
 }
 
 fn room_of(rows: &[usize], x: u8) -> usize

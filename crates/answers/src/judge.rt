@@ -40,17 +40,11 @@ fn check_of(text: &[u8]) -> u16 {
 }
 
 fn counted_is(c: Counted, t: Item) -> bool {
-    match c {
-        Counted::Zeros(z) => t.is(0, z),
-        Counted::Refused(k) => t.is(k.number(), 0),
-    }
+    t.is(c.number(), c.zeros())
 }
 
 fn scanned_is(s: Scanned, t: Item) -> bool {
-    match s {
-        Scanned::Notes(n) => t.is(0, n),
-        Scanned::Refused(k) => t.is(k.number(), 0),
-    }
+    t.is(s.number(), s.notes())
 }
 
 // What a cell must hold: the bits stand at their place, and nothing before or behind them is touched.

@@ -1,5 +1,5 @@
--- 01, Receiving: the paragraph on asynchronous characters, a bit at a time. Every assembly is accepted,
--- also one that no history made. Assumes nothing.
+-- 01, Receiving: the paragraph on asynchronous characters, a bit at a time. Every assembly is
+-- accepted, also one that no history made. Assumes nothing.
 use mathlib.Core.Bool.{Bool, true, false, not, _&&_, _||_, Bool·beq}
 use Prim.Native.Nat.{ℕ, _+_, _-_, _*_, _%_}
 use lib.Bits.{bitXor}
@@ -38,8 +38,8 @@ inSilence a x = assembled a x false noEntry
 unfoldable pub size : ℕ → ℕ
 size n = if eqb n 5 then 5 else (if eqb n 6 then 6 else (if eqb n 7 then 7 else 8))
 
--- "0 starts a character as set on that tick": data, parity and one stop bit are to come. "Unused high
--- bits read 1": all bits are ones until a 0 comes for one of them
+-- "0 starts a character as set on that tick": data, parity and one stop bit are to come. "Unused
+-- high bits read 1": all bits are ones until a 0 comes for one of them
 abbrev pub begunAs : Format → Assembly
 begunAs f = record {
   wait = false;
@@ -69,14 +69,14 @@ withBit a n b = record {
   even = a .even;
 }
 
--- the character with its marks: parity if the number of ones, the parity bit's among them, is not even
--- or odd as set; framing if the stop bit is 0
+-- the character with its marks: parity if the number of ones, the parity bit's among them, is not
+-- even or odd as set; framing if the stop bit is 0
 abbrev pub finished : Assembly → Bool → Entry
 finished a stop =
     received (a .bits) (a .parity && Bool·beq (a .odd) (a .even)) (not stop) false false
 
--- "one stop bit is checked and queues it". "After a stop bit of 0 a 1 must come before the next start;
--- if data and parity were 0 too, D7 sets until that 1"
+-- "one stop bit is checked and queues it". "After a stop bit of 0 a 1 must come before the next
+-- start; if data and parity were 0 too, D7 sets until that 1"
 abbrev pub stopped : Assembly → Bool → Bool → Assembled
 stopped a x stop =
     assembled (noAssembly (not stop)) (x || (a .blank && not stop)) true (finished a stop)

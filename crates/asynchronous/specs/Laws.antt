@@ -1,4 +1,5 @@
--- Laws of asynchronous mode: the bits of a character, its line, and what a history keeps. Assumes nothing.
+-- Laws of asynchronous mode: the bits of a character, its line, and what a history keeps. Assumes
+-- nothing.
 pub mod Character
 pub mod Line
 pub mod Sound

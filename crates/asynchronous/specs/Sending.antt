@@ -29,7 +29,8 @@ stopBits n = if eqb n 2 then true ∷ true ∷ [] else true ∷ []
 -- "the low bits, parity, stop ones"
 abbrev pub characterBits : Typing → ℕ → List Bool
 characterBits g v =
-    let bs = sentBits (g .format .length) v in bs ++ (parityBits (g .format) bs ++ stopBits (g .stops))
+    let bs =
+    sentBits (g .format .length) v in bs ++ (parityBits (g .format) bs ++ stopBits (g .stops))
 
 -- The character on the line, and a tick
 

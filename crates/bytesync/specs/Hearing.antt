@@ -1,5 +1,5 @@
--- 02, P3: the receiver of Monosync and Bisync, a bit at a time, while it is on. Every receiver and every
--- setting is accepted, also one that no history made. Assumes nothing.
+-- 02, P3: the receiver of Monosync and Bisync, a bit at a time, while it is on. Every receiver and
+-- every setting is accepted, also one that no history made. Assumes nothing.
 use mathlib.Core.Bool.{Bool, true, false, not, _&&_}
 use Prim.Native.Nat.{ℕ, _+_, _*_, _/_}
 use lib.Dec.{eqb, ltb, leb}
@@ -85,8 +85,8 @@ expected y turn = if y .both && not turn then y .first else y .second
 abbrev pub leads : Syncs → Block → ℕ → Bool
 leads y d v = d .leading && eqb v (expected y (d .turn))
 
--- "A character enters the receive check when the next one has been assembled, if WR3 D3 is set at that
--- moment": d is what stood before the next one
+-- "A character enters the receive check when the next one has been assembled, if WR3 D3 is set at
+-- that moment": d is what stood before the next one
 unfoldable pub entering : Matching → Block → ℕ → ℕ
 entering g d c =
     if g .checking && d .have then checkOver (g .polynomial) c (lowBits 8 (d .held)) else c

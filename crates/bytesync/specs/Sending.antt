@@ -1,6 +1,6 @@
 -- 02, P3: the sender of Monosync and Bisync, a tick at a time. A unit holds first the number of its
--- bits that are still to be sent, then what is left to shift out. Every unit and every setting has its
--- tick, also one that no history makes. Assumes nothing.
+-- bits that are still to be sent, then what is left to shift out. Every unit and every setting has
+-- its tick, also one that no history makes. Assumes nothing.
 use mathlib.Core.Bool.{Bool, true, false, not, _&&_}
 use Prim.Native.Nat.{ℕ, _-_, _/_}
 use lib.Dec.{eqb}
@@ -42,8 +42,8 @@ abbrev pub startSync : Syncing → Shared → Synced
 startSync g k =
     let v = syncSent (g .syncs) in sentBit (odd v) (Sync (syncLeft (g .syncs)) (v / 2)) k
 
--- "A byte enters the check at its load if WR5 D0 is set", over the polynomial that WR5 D2 chooses then.
--- "No zeros are inserted."
+-- "A byte enters the check at its load if WR5 D0 is set", over the polynomial that WR5 D2 chooses
+-- then. "No zeros are inserted."
 abbrev pub startByte : Syncing → Shared → Synced
 startByte g k =
     let v = k .buffer in

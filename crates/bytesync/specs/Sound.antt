@@ -1,6 +1,6 @@
--- What only byte-synchronous parts with a history have: a unit's bits still to be sent are fewer than
--- the unit has, in hunt at most sixteen bits are counted, and of a character at most seven. Assumes
--- nothing.
+-- What only byte-synchronous parts with a history have: a unit's bits still to be sent are fewer
+-- than the unit has, in hunt at most sixteen bits are counted, and of a character at most seven.
+-- Assumes nothing.
 use mathlib.Core.Bool.{Bool, true, false}
 use Prim.Native.Nat.{ℕ, _≤_}
 use Rattle.bytesync.specs.declared.BlockUnit.{BlockUnit}

@@ -1,5 +1,5 @@
--- A byte put down at once over a buffer, one bit to a cell, by tables that are lent, whatever they hold.
--- Assumes nothing.
+-- A byte put down at once over a buffer, one bit to a cell, by tables that are lent, whatever they
+-- hold. Assumes nothing.
 use mathlib.Core.Path.{_≡_}
 use mathlib.Core.List.{List}
 use Prim.Native.Nat.{ℕ, _+_, _-_, _*_, _/_, _%_, _<_}
@@ -21,7 +21,8 @@ plate buffer p = record { buffer = buffer; press = p }
 abbrev pub pressAt : ℕ → ℕ → Press
 pressAt at row = record { at = at; row = row }
 
--- the ones in a row that a press's row is for; a row is 256 for each, and none is behind that of four
+-- the ones in a row that a press's row is for; a row is 256 for each, and none is behind that of
+-- four
 abbrev pub runOf : Plate → ℕ
 runOf s = s .press .row / 256
 

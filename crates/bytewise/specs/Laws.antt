@@ -1,5 +1,5 @@
--- Laws of a byte put down at once: by the right tables, where there is room, it is the byte with its
--- inserted zeros, once at least four cells more are stored behind it. Assumes nothing.
+-- Laws of a byte put down at once: by the right tables, where there is room, it is the byte with
+-- its inserted zeros, once at least four cells more are stored behind it. Assumes nothing.
 use mathlib.Core.Path.{_≡_, ap}
 use mathlib.Core.Bool.{Bool}
 use mathlib.Core.List.{List, _++_}
@@ -15,7 +15,8 @@ use Rattle.stamp.specs.Stamp.{sentAs, twelve, runIn, stampTable, fourTable}
 use Rattle.stamp.specs.Laws.{Says, table-says}
 use Rattle.imprint.specs.Imprint.{stampRoom}
 use Rattle.imprint.specs.Laws.{imprint-fits, over-gone}
-use Rattle.bytewise.specs.Bytewise.{Plate, plate, pressAt, runOf, Ready, stampFor, byteStamped}
+use Rattle.bytewise.specs.Bytewise.{Plate, plate, pressAt, runOf, Ready, stampFor}
+use Rattle.bytewise.specs.Bytewise.{byteStamped}
 
 -- A byte by the right tables
 
@@ -56,7 +57,8 @@ module _ (s : Plate) (v : ℕ) (ready : Ready s)
   byte-run = omega (arith, row-is)
 
   pub byte-ready : Ready put
-  byte-ready = (omega (arith, row-is), omega (arith, row-is, runOver-lt run (lowBits 8 v) (ready .1)))
+  byte-ready =
+      (omega (arith, row-is), omega (arith, row-is, runOver-lt run (lowBits 8 v) (ready .1)))
 
   pub byte-size : length (put .buffer) ≡ length (s .buffer)
   byte-size = rw put-is (length-sets (s .buffer) (s .press .at) (cells (twelve e)))
@@ -66,4 +68,5 @@ module _ (s : Plate) (v : ℕ) (ready : Ready s)
       ≡ sets (s .buffer) (s .press .at) (cells (sentAs run v ++ next))
   byte-line next h =
       rw (byte-at, put-is, says .sent)
-      (over-gone (s .buffer) (s .press .at) (sentAs run v) (says .over) next (omega (arith, says .few)))
+      (over-gone (s .buffer) (s .press .at) (sentAs run v) (says .over) next
+      (omega (arith, says .few)))

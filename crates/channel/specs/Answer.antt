@@ -1,4 +1,5 @@
--- The paper's number of a call's refusal, 0 for none, and the value that it gives, 0 for none. Assumes nothing.
+-- The paper's number of a call's refusal, 0 for none, and the value that it gives, 0 for none.
+-- Assumes nothing.
 use Prim.Native.Nat.{ℕ}
 use Rattle.common.specs.Refusal.{numberOf}
 use Rattle.channel.specs.declared.Answer.{Answer}

@@ -1,4 +1,5 @@
--- A channel of the chip: its parts, what changes one of them, the status rule that every step runs, and its reset. Assumes nothing.
+-- A channel of the chip: its parts, what changes one of them, the status rule that every step runs,
+-- and its reset. Assumes nothing.
 use mathlib.Core.Bool.{Bool, true, false}
 use Prim.Native.Nat.{ℕ}
 use Rattle.queue.specs.declared.Queue.{Queue}
@@ -21,38 +22,59 @@ use Rattle.settings.specs.Settings.{registers, receivingOf}
 
 -- The parts of a channel, and what changes one of them
 
-abbrev pub channel : Registers → Sender → Receiver → Queue → Status → Lines → ℕ → Bool → Bool → Sources → Channel
+abbrev pub channel : Registers → Sender → Receiver → Queue → Status → Lines → ℕ → Bool → Bool
+    → Sources → Channel
 channel r s v q t l p a m i = record { registers = r; sender = s; receiver = v; queue = q; status = t; lines = l; pointer = p; armed = a; transmit = m; service = i }
 
 abbrev pub withRegisters : Channel → Registers → Channel
-withRegisters c r = channel r (c .sender) (c .receiver) (c .queue) (c .status) (c .lines) (c .pointer) (c .armed) (c .transmit) (c .service)
+withRegisters c r =
+    channel r (c .sender) (c .receiver) (c .queue) (c .status) (c .lines) (c .pointer) (c .armed)
+    (c .transmit) (c .service)
 
 abbrev pub withSender : Channel → Sender → Channel
-withSender c s = channel (c .registers) s (c .receiver) (c .queue) (c .status) (c .lines) (c .pointer) (c .armed) (c .transmit) (c .service)
+withSender c s =
+    channel (c .registers) s (c .receiver) (c .queue) (c .status) (c .lines) (c .pointer) (c .armed)
+    (c .transmit) (c .service)
 
 abbrev pub withReceiver : Channel → Receiver → Channel
-withReceiver c v = channel (c .registers) (c .sender) v (c .queue) (c .status) (c .lines) (c .pointer) (c .armed) (c .transmit) (c .service)
+withReceiver c v =
+    channel (c .registers) (c .sender) v (c .queue) (c .status) (c .lines) (c .pointer) (c .armed)
+    (c .transmit) (c .service)
 
 abbrev pub withQueue : Channel → Queue → Channel
-withQueue c q = channel (c .registers) (c .sender) (c .receiver) q (c .status) (c .lines) (c .pointer) (c .armed) (c .transmit) (c .service)
+withQueue c q =
+    channel (c .registers) (c .sender) (c .receiver) q (c .status) (c .lines) (c .pointer)
+    (c .armed) (c .transmit) (c .service)
 
 abbrev pub withStatus : Channel → Status → Channel
-withStatus c t = channel (c .registers) (c .sender) (c .receiver) (c .queue) t (c .lines) (c .pointer) (c .armed) (c .transmit) (c .service)
+withStatus c t =
+    channel (c .registers) (c .sender) (c .receiver) (c .queue) t (c .lines) (c .pointer) (c .armed)
+    (c .transmit) (c .service)
 
 abbrev pub withLines : Channel → Lines → Channel
-withLines c l = channel (c .registers) (c .sender) (c .receiver) (c .queue) (c .status) l (c .pointer) (c .armed) (c .transmit) (c .service)
+withLines c l =
+    channel (c .registers) (c .sender) (c .receiver) (c .queue) (c .status) l (c .pointer)
+    (c .armed) (c .transmit) (c .service)
 
 abbrev pub withPointer : Channel → ℕ → Channel
-withPointer c p = channel (c .registers) (c .sender) (c .receiver) (c .queue) (c .status) (c .lines) p (c .armed) (c .transmit) (c .service)
+withPointer c p =
+    channel (c .registers) (c .sender) (c .receiver) (c .queue) (c .status) (c .lines) p (c .armed)
+    (c .transmit) (c .service)
 
 abbrev pub withArmed : Channel → Bool → Channel
-withArmed c a = channel (c .registers) (c .sender) (c .receiver) (c .queue) (c .status) (c .lines) (c .pointer) a (c .transmit) (c .service)
+withArmed c a =
+    channel (c .registers) (c .sender) (c .receiver) (c .queue) (c .status) (c .lines)
+    (c .pointer) a (c .transmit) (c .service)
 
 abbrev pub withTransmit : Channel → Bool → Channel
-withTransmit c m = channel (c .registers) (c .sender) (c .receiver) (c .queue) (c .status) (c .lines) (c .pointer) (c .armed) m (c .service)
+withTransmit c m =
+    channel (c .registers) (c .sender) (c .receiver) (c .queue) (c .status) (c .lines) (c .pointer)
+    (c .armed) m (c .service)
 
 abbrev pub withService : Channel → Sources → Channel
-withService c i = channel (c .registers) (c .sender) (c .receiver) (c .queue) (c .status) (c .lines) (c .pointer) (c .armed) (c .transmit) i
+withService c i =
+    channel (c .registers) (c .sender) (c .receiver) (c .queue) (c .status) (c .lines) (c .pointer)
+    (c .armed) (c .transmit) i
 
 abbrev pub answered : Answer → Channel → Answered
 answered w c = record { answer = w; channel = c }
@@ -77,7 +99,10 @@ settled was is = withStatus is (noticed (is .status) (liveOf was) (liveOf is))
 abbrev pub noRegisters : Registers
 noRegisters = registers 0 0 0 0 0 0 0 false
 
--- "A channel reset zeroes the WRs, empties buffer and queue, leaves no mode, sets D6, clears D7 and RR1 D4 and D5, arms the first-character
--- interrupt, presets both checks to ones, ends that channel's pending and in-service sources and unlatches external status."
+-- "A channel reset zeroes the WRs, empties buffer and queue, leaves no mode, sets D6, clears D7 and
+-- RR1 D4 and D5, arms the first-character interrupt, presets both checks to ones, ends that
+-- channel's pending and in-service sources and unlatches external status."
 abbrev pub resetWith : Lines → Channel
-resetWith l = channel noRegisters sending.atReset receiving.reset empty (status false quietLive) l 0 true false noSources
+resetWith l =
+    channel noRegisters sending.atReset receiving.reset empty
+    (status false quietLive) l 0 true false noSources

@@ -17,14 +17,19 @@ use Rattle.status.specs.declared.Live.{Live}
 use Rattle.channel.specs.declared.Channel.{Channel}
 use Rattle.channel.specs.declared.Answer.the-variants.{Done, Gave, Refused}
 use Rattle.channel.specs.declared.Answered.{Answered}
-use Rattle.settings.specs.Settings.{store1, store2, store3, store4, store5, store6, store7, commandIn, presetIn, pointerIn, transmitOn, entersHunt, modeOf, modeIn, notBuilt, sendingOf}
+use Rattle.settings.specs.Settings.{store1, store2, store3, store4, store5, store6, store7}
+use Rattle.settings.specs.Settings.{commandIn, presetIn, pointerIn, transmitOn, entersHunt, modeOf}
+use Rattle.settings.specs.Settings.{modeIn, notBuilt, sendingOf}
 use Rattle.status.specs.Status.{shownBits, afresh}
-use Rattle.channel.specs.Channel.{withRegisters, withSender, withReceiver, withQueue, withStatus, withPointer, withArmed, withTransmit, answered, liveOf, settled, resetWith}
+use Rattle.channel.specs.Channel.{withRegisters, withSender, withReceiver, withQueue}
+use Rattle.channel.specs.Channel.{withStatus, withPointer, withArmed, withTransmit, answered}
+use Rattle.channel.specs.Channel.{liveOf, settled, resetWith}
 
 -- WR0
 
--- "D5-3 command: 0 none, 1 Send Abort, 2 Reset External/Status, .. 4 arm first-character interrupt, 5 reset Tx interrupt, 6 Error Reset, 7 as
--- RETI (A only, none in B)". 3, Channel Reset, is none of these steps; what 7 does is the chip's to do
+-- "D5-3 command: 0 none, 1 Send Abort, 2 Reset External/Status, .. 4 arm first-character interrupt,
+-- 5 reset Tx interrupt, 6 Error Reset, 7 as RETI (A only, none in B)". 3, Channel Reset, is none of
+-- these steps; what 7 does is the chip's to do
 unfoldable pub commanded : Channel → ℕ → Channel
 commanded c k =
     if eqb k 1 then withSender c (aborted (sendingOf (c .registers) (c .lines)) (c .sender))
@@ -43,7 +48,8 @@ preset c k =
     else (if eqb k 3 then withSender c (latchCleared (c .sender))
     else c))
 
--- "Order: command, D7-6, pointer. Channel Reset ignores the other fields." Each step runs the status rule
+-- "Order: command, D7-6, pointer. Channel Reset ignores the other fields." Each step runs the
+-- status rule
 unfoldable pub commandStep : Channel → ℕ → Channel
 commandStep c v = settled c (commanded c (commandIn v))
 
@@ -66,17 +72,20 @@ abbrev pub setWr2 : Channel → Side → ℕ → Channel
 setWr2 c A v = c
 setWr2 c B v = withRegisters c (store2 (c .registers) v)
 
--- 01, Receiving: "in SDLC a WR3 write with D4 set, drops the unfinished part, .. and, in SDLC, starts hunt"; 02, P3: "Enter Hunt starts the
--- search again"
+-- 01, Receiving: "in SDLC a WR3 write with D4 set, drops the unfinished part, .. and, in SDLC,
+-- starts hunt"; 02, P3: "Enter Hunt starts the search again"
 abbrev pub setWr3 : Channel → ℕ → Channel
 setWr3 c v =
     let d = withRegisters c (store3 (c .registers) v) in
-    if entersHunt v && synchronous (modeIn (c .registers)) then withReceiver d (enterHunt (c .receiver)) else d
+    if entersHunt v
+    && synchronous (modeIn (c .registers)) then withReceiver d (enterHunt (c .receiver)) else d
 
--- "An accepted WR4 that changes the mode idles the sender as after a mark, keeps buffer and queue, clears D7, drops the half-received
--- character and frame, and starts hunt in SDLC."; Monosync and Bisync hunt as well, and to go from one to the other is a change
+-- "An accepted WR4 that changes the mode idles the sender as after a mark, keeps buffer and queue,
+-- clears D7, drops the half-received character and frame, and starts hunt in SDLC."; Monosync and
+-- Bisync hunt as well, and to go from one to the other is a change
 abbrev pub inMode : Channel → Mode → Channel
-inMode c m = withReceiver (withSender c (idled (c .sender))) (modeChanged (c .receiver) (synchronous m))
+inMode c m =
+    withReceiver (withSender c (idled (c .sender))) (modeChanged (c .receiver) (synchronous m))
 
 unfoldable pub setWr4 : Channel → ℕ → Channel
 setWr4 c v =
@@ -94,7 +103,8 @@ setRegister c w p v =
     else (if eqb p 6 then withRegisters c (store6 (c .registers) v)
     else withRegisters c (store7 (c .registers) v))))))
 
--- "Any control read, or write to WR1 to WR7, uses the pointer and sets it to 0." A refused WR4 changes nothing, the pointer included
+-- "Any control read, or write to WR1 to WR7, uses the pointer and sets it to 0." A refused WR4
+-- changes nothing, the pointer included
 unfoldable pub controlWritten : Channel → Side → ℕ → Answered
 controlWritten c w v =
     if eqb (c .pointer) 0 then answered Done (writeWr0 c v)
@@ -103,12 +113,15 @@ controlWritten c w v =
 
 -- Reads
 
--- "RR0: D0 character waits, D1 any source pending (A; 0 in B), D2 transmit buffer empty and no check being sent, D3 DCD, D4 hunt (SDLC;
--- else 0), D5 CTS, D6, D7." Whether a source is pending is the chip's to say
+-- "RR0: D0 character waits, D1 any source pending (A; 0 in B), D2 transmit buffer empty and no
+-- check being sent, D3 DCD, D4 hunt (SDLC; else 0), D5 CTS, D6, D7." Whether a source is pending is
+-- the chip's to say
 abbrev pub rr0Of : Channel → Bool → Live → ℕ
 rr0Of c pending s =
-    placed (waits (c .queue)) 0b1 + placed pending 0b10 + placed (bufferReady (sendingOf (c .registers) (c .lines)) (c .sender)) 0b100 + placed (s .dcd) 0b1000
-    + placed (s .hunt) 0b10000 + placed (s .cts) 0b100000 + placed (s .underrun) 0b1000000 + placed (s .abort) 0b10000000
+    placed (waits (c .queue)) 0b1 + placed pending 0b10 + placed
+    (bufferReady (sendingOf (c .registers) (c .lines)) (c .sender)) 0b100 + placed (s .dcd) 0b1000
+    + placed (s .hunt) 0b10000 + placed (s .cts) 0b100000 + placed (s .underrun) 0b1000000 + placed
+    (s .abort) 0b10000000
 
 unfoldable pub rr0 : Channel → Bool → ℕ
 rr0 c pending = rr0Of c pending (shownBits (c .status) (liveOf c))

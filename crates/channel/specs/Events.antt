@@ -1,4 +1,5 @@
--- 01, Events: data, ticks and lines of one channel, and which of its sources are pending. Assumes nothing.
+-- 01, Events: data, ticks and lines of one channel, and which of its sources are pending. Assumes
+-- nothing.
 use mathlib.Core.Bool.{Bool, true, false, not, _&&_, _||_}
 use Prim.Native.Nat.{ℕ}
 use lib.Dec.{eqb}
@@ -17,23 +18,28 @@ use Rattle.channel.specs.declared.Channel.{Channel}
 use Rattle.channel.specs.declared.Answer.the-variants.{Gave, Refused}
 use Rattle.channel.specs.declared.Answered.{Answered}
 use Rattle.settings.specs.Settings.{externalOn, transmitOn, receiveMode, sendingOf, receivingOf}
-use Rattle.channel.specs.Channel.{withSender, withReceiver, withQueue, withLines, withArmed, withTransmit, answered, settled}
+use Rattle.channel.specs.Channel.{withSender, withReceiver, withQueue, withLines, withArmed}
+use Rattle.channel.specs.Channel.{withTransmit, answered, settled}
 
 -- 01, Sending: "A data write fills the buffer, replacing what is there." It ends a pending transmit
 abbrev pub dataWritten : Channel → ℕ → Channel
 dataWritten c v = withTransmit (withSender c (written (c .sender) v)) false
 
--- 01, Receiving: "A data read takes the oldest and disarms the first-character interrupt". 02, P5: "10, data
--- read with nothing waiting"
+-- 01, Receiving: "A data read takes the oldest and disarms the first-character interrupt". 02, P5:
+-- "10, data read with nothing waiting"
 unfoldable pub dataRead : Channel → Answered
 dataRead c =
     if waits (c .queue)
-    then answered (Gave (oldest (c .queue) .byte)) (withArmed (withQueue c (taken (c .queue))) false)
+    then answered (Gave (oldest (c .queue) .byte))
+    (withArmed (withQueue c (taken (c .queue))) false)
     else answered (Refused refusal.NoCharacter) c
 
--- a transmit tick "gives one line bit". 01, Interrupts: "Transmit: set by a load while WR1 D1 is set"
+-- a transmit tick "gives one line bit". 01, Interrupts: "Transmit: set by a load while WR1 D1 is
+-- set"
 abbrev pub afterTick : Channel → Ticked → Channel
-afterTick c t = withTransmit (withSender c (t .sender)) (c .transmit || (t .loaded && transmitOn (c .registers .wr1)))
+afterTick c t =
+    withTransmit (withSender c (t .sender))
+    (c .transmit || (t .loaded && transmitOn (c .registers .wr1)))
 
 abbrev pub transmitted : Channel → Ticked → Answered
 transmitted c t = answered (Gave (oneIf (t .bit))) (settled c (afterTick c t))
@@ -49,7 +55,8 @@ abbrev pub heardBy : Channel → Heard → Channel
 heardBy c h = withQueue (withReceiver c (h .receiver)) (queued (c .queue) h)
 
 unfoldable pub receiveTick : Channel → Bool → Channel
-receiveTick c b = settled c (heardBy c (hear (receivingOf (c .registers) (c .lines)) (c .receiver) b))
+receiveTick c b =
+    settled c (heardBy c (hear (receivingOf (c .registers) (c .lines)) (c .receiver) b))
 
 -- "set DCD and CTS": both at once
 unfoldable pub linesSet : Channel → Bool → Bool → Channel
@@ -59,7 +66,8 @@ linesSet c dcd cts = settled c (withLines c (record { dcd = dcd; cts = cts }))
 unfoldable pub specialWaits : Channel → Bool
 specialWaits c = special (c .queue) (eqb (receiveMode (c .registers .wr1)) 2)
 
--- "Receive is pending by mode if a character waits (mode 1: and armed), or, modes 1 to 3, if the oldest entry is special"
+-- "Receive is pending by mode if a character waits (mode 1: and armed), or, modes 1 to 3, if the
+-- oldest entry is special"
 unfoldable pub receivePending : Channel → Bool
 receivePending c =
     let m = receiveMode (c .registers .wr1) in
@@ -67,4 +75,10 @@ receivePending c =
 
 -- "External: latched and WR1 D0."
 unfoldable pub pendingIn : Channel → Sources
-pendingIn c = record { receive = receivePending c; transmit = c .transmit; external = c .status .latched && externalOn (c .registers .wr1) }
+pendingIn c =
+    record {
+      receive = receivePending c;
+      transmit = c .transmit;
+      external = c .status .latched
+          && externalOn (c .registers .wr1);
+    }

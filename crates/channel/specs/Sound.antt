@@ -1,5 +1,5 @@
--- What only a channel with a history has: its parts are such as a history gives them, and the pointer
--- names one of eight registers. Assumes nothing.
+-- What only a channel with a history has: its parts are such as a history gives them, and the
+-- pointer names one of eight registers. Assumes nothing.
 use Prim.Native.Nat.{ℕ, _≤_}
 use Rattle.queue.specs.declared.Queue.{Queue}
 use Rattle.queue.specs.Holding.{SoundQueue}

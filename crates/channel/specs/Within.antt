@@ -1,6 +1,6 @@
 -- Most ticks, in a form of their own and no part of 01: in SDLC, inside a byte that is sent with no
--- break, nothing but the sender changes, and inside a character that is heard nothing but the receiver.
--- That they are the ticks is said in Laws/Within. Assumes nothing.
+-- break, nothing but the sender changes, and inside a character that is heard nothing but the
+-- receiver. That they are the ticks is said in Laws/Within. Assumes nothing.
 use mathlib.Core.Bool.{Bool, not, _&&_}
 use Rattle.common.specs.Mode.{inSdlc}
 use Rattle.line.specs.Bits.{oneIf}
@@ -19,7 +19,7 @@ use Rattle.channel.specs.declared.Channel.{Channel}
 use Rattle.channel.specs.Channel.{answered, withSender, withReceiver}
 
 abbrev pub sendsWithin : Sending → Sender → Bool
-sendsWithin g s = inSdlc (g .mode) && (not (g .broken) && within (framerOf s))
+sendsWithin g s = within (framerOf s) && (not (g .broken) && inSdlc (g .mode))
 
 unfoldable pub withinByte : Channel → Bool
 withinByte c = sendsWithin (sendingOf (c .registers) (c .lines)) (c .sender)

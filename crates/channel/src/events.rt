@@ -58,6 +58,13 @@ impl Channel {
         ensures { λ r. ⌜ r ≡ transmitTick self ⌝ }
     {
         let t = self.sender.tick(self.registers.sending(self.lines));
+        // the latch alone can move the status
+        if t.sender.shared.latch == self.sender.shared.latch {
+            return Answered {
+                answer: Answer::Gave(cell(t.bit)),
+                channel: self.after_tick(t),
+            };
+        }
         let c = self.after_tick(t).settled(self);
         Answered {
             answer: Answer::Gave(cell(t.bit)),

@@ -5,6 +5,7 @@ use crate::Answered;
 use crate::Channel;
 use crate::events::cell;
 use common::in_sdlc;
+use settings::breaks;
 ghost use mathlib.Core.Path.{_≡_};
 ghost use Rattle.channel.specs.Within.{withinByte, tickedWithin, hearsWithin, heardWithin};
 
@@ -13,9 +14,10 @@ impl Channel {
     pub fn within(self) -> bool
         ensures { λ r. ⌜ r ≡ withinByte self ⌝ }
     {
-        let g = self.registers.sending(self.lines);
-        let m = g.mode;
-        in_sdlc(m) & (!g.broken & framing::within(self.sender.framer()))
+        if framing::within(self.sender.framer()) {
+            return !breaks(self.registers.wr5) & in_sdlc(self.registers.mode());
+        }
+        false
     }
 
     // The tick, if so.

@@ -1,4 +1,5 @@
--- 01, Events: the table of refusals, rows 1 to 4, 02's row 10, and the rows that each event knows. Assumes nothing.
+-- 01, Events: the table of refusals, rows 1 to 4, 02's row 10, and the rows that each event knows.
+-- Assumes nothing.
 use mathlib.Core.Bool.{Bool, not, _&&_, _||_}
 use mathlib.Core.List.{List, [], _∷_}
 use Prim.Native.Nat.{ℕ}

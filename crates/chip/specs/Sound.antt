@@ -1,4 +1,5 @@
--- What only a chip with a history has: both channels are such as a history gives them. Assumes nothing.
+-- What only a chip with a history has: both channels are such as a history gives them. Assumes
+-- nothing.
 use Rattle.channel.specs.Sound.{SoundChannel}
 use Rattle.chip.specs.declared.Chip.{Chip}
 

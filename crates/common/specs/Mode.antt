@@ -7,7 +7,8 @@ use lib.Dec.{eqb}
 use borrow.Author.Tests.{eqb-true}
 use Rattle.common.specs.Choice.{if_then_else_}
 use Rattle.common.specs.declared.Mode.{Mode}
-use Rattle.common.specs.declared.Mode.the-variants.{NoMode, Asynchronous, Monosync, Bisync, Sdlc}
+use Rattle.common.specs.declared.Mode.the-variants.{NoMode, Asynchronous, Monosync, Bisync}
+use Rattle.common.specs.declared.Mode.the-variants.{Sdlc}
 
 abbrev pub inSdlc : Mode → Bool
 inSdlc NoMode = false

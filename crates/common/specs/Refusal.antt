@@ -1,7 +1,9 @@
 -- 01, Events, and 02: the number that the paper gives each refusal. Assumes nothing.
 use Prim.Native.Nat.{ℕ}
 use Rattle.common.specs.declared.Refusal.{Refusal}
-use Rattle.common.specs.declared.Refusal.the-variants.{Channel, Level, Setting, NothingWaits, NoList, NoteLength, CutList, NoRoom, LongList, NoCharacter}
+use Rattle.common.specs.declared.Refusal.the-variants.{Channel, Level, Setting, NothingWaits}
+use Rattle.common.specs.declared.Refusal.the-variants.{NoList, NoteLength, CutList, NoRoom}
+use Rattle.common.specs.declared.Refusal.the-variants.{LongList, NoCharacter}
 
 abbrev pub numberOf : Refusal → ℕ
 numberOf Channel = 1

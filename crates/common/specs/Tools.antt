@@ -1,12 +1,13 @@
--- Tools for proofs: to go by a test, to go by whichever way a choice went, what a test says that came out true, and a test over every number
--- below a bound. Assumes nothing.
+-- Tools for proofs: to go by a test, to go by whichever way a choice went, what a test says that
+-- came out true, and a test over every number below a bound. Assumes nothing.
 use mathlib.Core.Path.{_≡_, refl, ap}
 use mathlib.Core.Logic.{_≢_}
 use mathlib.Core.Bool.{Bool, true, false, not, Bool·beq, _&&_}
 use Prim.Native.Nat.{ℕ, zero, suc, _≤_, _<_}
 use native.Mathlib.Omega.{arith}
 use lib.Dec.{T, eqb, ltb}
-use borrow.Author.Tests.{eqb-true, eqb-false, ltb-true, ltb-false, le-leb, lt-leb, le-ltb, lt-ltb, eq-eqb, ne-eqb}
+use borrow.Author.Tests.{eqb-true, eqb-false, ltb-true, ltb-false, le-leb, lt-leb, le-ltb, lt-ltb}
+use borrow.Author.Tests.{eq-eqb, ne-eqb}
 use Rattle.common.specs.Choice.{if_then_else_}
 use Rattle.common.specs.Bit.{placed}
 
@@ -37,12 +38,14 @@ bool-or true f g = f refl
 bool-or false f g = g refl
 
 -- whichever way a choice went
-pub if-elim : {A : Type 0} (P : A → Type 0) (b : Bool) {x y : A} → P x → P y → P (if b then x else y)
+pub if-elim : {A : Type 0} (P : A → Type 0) (b : Bool) {x y : A} → P x → P y
+    → P (if b then x else y)
 if-elim P true p q = p
 if-elim P false p q = q
 
 -- the same, with what the test said
-pub by-test : {A : Type 0} (P : A → Type 0) (b : Bool) {x y : A} → (b ≡ true → P x) → (b ≡ false → P y) → P (if b then x else y)
+pub by-test : {A : Type 0} (P : A → Type 0) (b : Bool) {x y : A} → (b ≡ true → P x)
+    → (b ≡ false → P y) → P (if b then x else y)
 by-test P true f g = f refl
 by-test P false f g = g refl
 

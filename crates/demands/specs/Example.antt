@@ -1,5 +1,5 @@
--- Two chips on one line, computed: what A of one sends, B of the other hears of a frame in time. Then the
--- theorem, said of it. Assumes nothing.
+-- Two chips on one line, computed: what A of one sends, B of the other hears of a frame in time.
+-- Then the theorem, said of it. Assumes nothing.
 use mathlib.Core.Path.{_≡_, refl}
 use mathlib.Core.Bool.{Bool, true, false}
 use mathlib.Core.List.{List, [], _∷_, _++_}
@@ -48,9 +48,12 @@ examples = record {
 
 -- the theorem speaks of this story
 
-noisy-together : Received B (listening B) (hears (sent noisy)) (withCheck (255 ∷ 136 ∷ [])) (ended false (withCheck (255 ∷ 136 ∷ [])))
+noisy-together : Received B (listening B) (hears (sent noisy)) (withCheck (255 ∷ 136 ∷ []))
+    (ended false (withCheck (255 ∷ 136 ∷ [])))
 unfolding ticks times stuff zeros textBits lowBits checkOver checkStep checkBits topBits
 noisy-together =
-    together A begin 3 255 (136 ∷ []) noisy sending.starts (in-time A begin 2 (255 ∷ 136 ∷ []) noisy (sending.examples .noisy-timely)) refl
-    (more (omega arith) (more (omega arith) none)) B (listening B) (hears (sent noisy)) (examples .listens)
+    together A begin 3 255 (136 ∷ []) noisy sending.starts
+    (in-time A begin 2 (255 ∷ 136 ∷ []) noisy (sending.examples .noisy-timely)) refl
+    (more (omega arith) (more (omega arith) none)) B (listening B) (hears (sent noisy))
+    (examples .listens)
     (fed B (listening B) (hears (sent noisy)) (examples .room)) (examples .bits)

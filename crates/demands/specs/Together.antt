@@ -1,4 +1,5 @@
--- Sender and receiver together: what channel w of one chip sends in time, channel u of another that listens gives back. Assumes nothing.
+-- Sender and receiver together: what channel w of one chip sends in time, channel u of another that
+-- listens gives back. Assumes nothing.
 use mathlib.Core.Path.{_≡_, _∙_}
 use mathlib.Core.List.{List, [], _∷_, _++_}
 use mathlib.Core.Bool.{false}
@@ -23,10 +24,14 @@ use Rattle.history.specs.Receiving.Side as receiving
 
 -- the bits that r hears are those that c sends, from the first bit of its opening flag on
 abbrev pub Together : Type 0
-Together = (w : Which) (c : Chip) (p v : ℕ) (vs : List ℕ) (st : List Event) → Start w c p → InTime w [] c (p - 1) (v ∷ vs) st
+Together =
+    (w : Which) (c : Chip) (p v : ℕ) (vs : List ℕ) (st : List Event) → Start w c p
+    → InTime w [] c (p - 1) (v ∷ vs) st
     → p + ticks w st ≡ 8 * (length (v ∷ vs) + 2) + 16 + zerosOf (v ∷ vs) → Below 256 (v ∷ vs)
-    → (u : Which) (r : Chip) (rs : List Event) → Listening (receiving.sideOf u r) → Fed u r rs → bitsOf u rs ≡ flagHead p ++ lineOf w c st
+    → (u : Which) (r : Chip) (rs : List Event) → Listening (receiving.sideOf u r) → Fed u r rs
+    → bitsOf u rs ≡ flagHead p ++ lineOf w c st
     → Received u r rs (withCheck (v ∷ vs)) (ended false (withCheck (v ∷ vs)))
 
 pub together : Together
-together w c p v vs st s i n b u r rs l f e = demand2 u r rs (v ∷ vs) l (omega arith) b f (e ∙ demand3 w c p v vs st s i n)
+together w c p v vs st s i n b u r rs l f e =
+    demand2 u r rs (v ∷ vs) l (omega arith) b f (e ∙ demand3 w c p v vs st s i n)

@@ -1,6 +1,6 @@
 -- 01, Events, row 3 of the table of refusals, as 02, P3, leaves it, in the bits of the byte that is
--- written to WR4. The test of the code, `notBuilt`, is not named here: that it is the same is a law.
--- Assumes nothing.
+-- written to WR4. The test of the code, `notBuilt`, is not named here: that it is the same is a
+-- law. Assumes nothing.
 use mathlib.Core.Bool.{Bool, not, _&&_, _||_}
 use Prim.Native.Nat.{ℕ, _/_}
 use lib.Dec.{eqb}

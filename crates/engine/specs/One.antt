@@ -1,5 +1,5 @@
--- 02, P6: "Its line, its zero count and its refusals must equal the first writer's for every note and
--- every buffer, untouched bytes included": the two writers are one function. Assumes nothing.
+-- 02, P6: "Its line, its zero count and its refusals must equal the first writer's for every note
+-- and every buffer, untouched bytes included": the two writers are one function. Assumes nothing.
 use mathlib.Core.Path.{_≡_, refl, sym, ap, ap₂, _∙_}
 use mathlib.Core.Bool.{Bool, true, false}
 use mathlib.Core.List.{List, _++_}
@@ -39,7 +39,8 @@ byBits note buffer at =
 abbrev pub byBytes : List ℕ → List ℕ → ℕ → Written
 byBytes note buffer at =
     written (writeBy checkTable stampTable fourTable note buffer at)
-    (leftBy checkTable stampTable fourTable (writeBy checkTable stampTable fourTable note buffer at) note buffer at)
+    (leftBy checkTable stampTable fourTable
+    (writeBy checkTable stampTable fourTable note buffer at) note buffer at)
 
 module _ (note buffer : List ℕ) (at : ℕ) (room : ticksOf note ≤ length buffer - at) where
   fits : ticksOf note ≤ length (drop at buffer)
@@ -56,7 +57,8 @@ module _ (note buffer : List ℕ) (at : ℕ) (room : ticksOf note ≤ length buf
       ∙ ap (λ (l : List ℕ). cells (frame note) ++ l) (drop-drop (ticksOf note) at buffer))
 
 -- the two writers are one function
-pub writers-are-one : (note buffer : List ℕ) (at : ℕ) → byBytes note buffer at ≡ byBits note buffer at
+pub writers-are-one : (note buffer : List ℕ) (at : ℕ)
+    → byBytes note buffer at ≡ byBits note buffer at
 unfolding writeBy writeOf
 writers-are-one note buffer at =
     go (noteFits (length note)) (ltb (length buffer - at) (ticksOf note))
@@ -77,4 +79,5 @@ writers-are-one note buffer at =
     go false short room = refl
     go true true room = refl
     go true false room =
-        ap₂ written (ap Zeros (zeros-same note buffer at (room refl))) (line-same note buffer at (room refl))
+        ap₂ written (ap Zeros (zeros-same note buffer at (room refl)))
+        (line-same note buffer at (room refl))

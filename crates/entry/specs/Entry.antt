@@ -1,12 +1,12 @@
--- An entry of the receive queue: a character with its marks, and what RR1 and the interrupts see of it.
--- Assumes nothing.
+-- An entry of the receive queue: a character with its marks, and what RR1 and the interrupts see of
+-- it. Assumes nothing.
 use mathlib.Core.Bool.{Bool, true, false, _&&_, _||_}
 use Prim.Native.Nat.{ℕ, _+_}
 use Rattle.common.specs.Bit.{placed}
 use Rattle.entry.specs.declared.Entry.{Entry}
 
--- the one place where entries are built: a character, whether its parity is wrong, its stop bit was 0,
--- it ends a frame, and that frame's check is bad. The overrun mark is the queue's to add
+-- the one place where entries are built: a character, whether its parity is wrong, its stop bit was
+-- 0, it ends a frame, and that frame's check is bad. The overrun mark is the queue's to add
 abbrev pub received : ℕ → Bool → Bool → Bool → Bool → Entry
 received v p f e b =
     record { byte = v; parity = p; overrun = false; framing = f; ends = e; bad = b }
@@ -32,9 +32,9 @@ overran e =
       bad = e .bad;
     }
 
--- 01, Registers: "RR1: D0 all sent ..; D3-1 binary 011 if the oldest entry ends a frame, else 000; D4
--- parity, D5 overrun; D6 framing error or, at a frame's end, a bad check; D7 frame end. D6 and D7 are
--- the oldest entry's"
+-- 01, Registers: "RR1: D0 all sent ..; D3-1 binary 011 if the oldest entry ends a frame, else 000;
+-- D4 parity, D5 overrun; D6 framing error or, at a frame's end, a bad check; D7 frame end. D6 and
+-- D7 are the oldest entry's"
 abbrev pub rr1With : Entry → Bool → Bool → Bool → Bool → ℕ
 rr1With e sent p o error =
     placed sent 0b1 + placed (e .ends) 0b110 + placed p 0b10000 + placed o 0b100000

@@ -1,6 +1,7 @@
--- 01, Marked examples: "Prove these together as a single table". Each row has the example's number, what the definitions give and what the paper
--- says, numbers in a list: the bits of a line (1 to 3, 5), the values that calls gave (4, 6 to 8), and of a list its report (9, 10): its rows,
--- then notes and ticks in all, or the one number of its refusal. Assumes nothing.
+-- 01, Marked examples: "Prove these together as a single table". Each row has the example's number,
+-- what the definitions give and what the paper says, numbers in a list: the bits of a line (1 to 3,
+-- 5), the values that calls gave (4, 6 to 8), and of a list its report (9, 10): its rows, then
+-- notes and ticks in all, or the one number of its refusal. Assumes nothing.
 use mathlib.Core.List.{List, [], _∷_, _++_}
 use Prim.Native.Nat.{ℕ, _/_, _%_}
 use lib.ListN.{take, replicate}
@@ -9,7 +10,8 @@ use Rattle.line.specs.Bits.{cells}
 use Rattle.line.specs.Frame.{frame}
 use Rattle.chip.specs.declared.Chip.{Chip}
 use Rattle.chip.specs.Chip.{hardReset}
-use Rattle.chip.specs.Event.{Event, ControlWrite, ControlRead, DataWrite, DataRead, Acknowledge, Reti}
+use Rattle.chip.specs.Event.{Event, ControlWrite, ControlRead, DataWrite, DataRead, Acknowledge}
+use Rattle.chip.specs.Event.{Reti}
 use Rattle.flags.specs.declared.Between.the-variants.{SharedFlag}
 use Rattle.flags.specs.Flags.{usual}
 use Rattle.report.specs.Report.{Report, report, refusal, reportOf}
@@ -53,7 +55,8 @@ line2 = flag ++ (digits 9 0b111110111 ++ (digits 8 0b00000000 ++ (digits 9 0b111
 abbrev pub line3 : List ℕ
 line3 = flag ++ (digits 8 0b00010001 ++ (digits 8 0b00011100 ++ (digits 8 0b00011111 ++ (digits 1 0b0 ++ flag))))
 
--- 4. "Frame 2 received: FF, 00, FF; the last ends, good.": two bytes, then RR1 with the end and no error, then the last
+-- 4. "Frame 2 received: FF, 00, FF; the last ends, good.": two bytes, then RR1 with the end and no
+-- error, then the last
 abbrev pub hears2 : Chip
 hears2 = after hardReset (sdlcReceiver ++ heard 0 line2)
 
@@ -66,38 +69,46 @@ eightBits = sets 0 4 0b00000100 ++ sets 0 5 0b01101000
 
 -- a byte that A sends is read in B: both are set so, and A's line is B's for these ticks
 abbrev pub readsBack : List Event → ℕ → ℕ → List ℕ
-readsBack setting v n = given (wired n (after hardReset (setting ++ (DataWrite 0 v ∷ [])))) (DataRead 1 ∷ [])
+readsBack setting v n =
+    given (wired n (after hardReset (setting ++ (DataWrite 0 v ∷ [])))) (DataRead 1 ∷ [])
 
 -- 6. "41, seven bits, odd parity: reads C1."
 abbrev pub sevenOdd : List Event
-sevenOdd = sets 0 4 0b00000101 ++ (sets 0 5 0b00101000 ++ (sets 1 4 0b00000101 ++ sets 1 3 0b01000001))
+sevenOdd =
+    sets 0 4 0b00000101 ++ (sets 0 5 0b00101000 ++ (sets 1 4 0b00000101 ++ sets 1 3 0b01000001))
 
 -- 7. "01, five bits, even: reads E1."
 abbrev pub fiveEven : List Event
-fiveEven = sets 0 4 0b00000111 ++ (sets 0 5 0b00001000 ++ (sets 1 4 0b00000111 ++ sets 1 3 0b00000001))
+fiveEven =
+    sets 0 4 0b00000111 ++ (sets 0 5 0b00001000 ++ (sets 1 4 0b00000111 ++ sets 1 3 0b00000001))
 
--- 8. "WR2 = E0, status on, A special: EE; none pending: RR2 E6.": A's last byte, which ends its frame, waits; then it is read and its service ended
+-- 8. "WR2 = E0, status on, A special: EE; none pending: RR2 E6.": A's last byte, which ends its
+-- frame, waits; then it is read and its service ended
 abbrev pub special8 : Chip
-special8 = after hears2 (sets 1 2 0xE0 ++ (sets 1 1 0b00000100 ++ (sets 0 1 0b00011000 ++ (DataRead 0 ∷ DataRead 0 ∷ []))))
+special8 =
+    after hears2 (sets 1 2 0xE0
+    ++ (sets 1 1 0b00000100 ++ (sets 0 1 0b00011000 ++ (DataRead 0 ∷ DataRead 0 ∷ []))))
 
 abbrev pub asks8 : List Event
 asks8 = Acknowledge ∷ DataRead 0 ∷ Reti ∷ ControlWrite 1 2 ∷ ControlRead 1 ∷ []
 
--- the numbers that the list program prints: the rows, then notes and ticks in all; or the refusal alone
+-- the numbers that the list program prints: the rows, then notes and ticks in all; or the refusal
+-- alone
 abbrev pub printed : Report → List ℕ
 printed (report rows notes ticks) = rows ++ (notes ∷ ticks ∷ [])
 printed (refusal k) = numberOf k ∷ []
 
--- 9. "Input 01 0001 00 0001 FF 0001 88 (hex) prints `1 1 0 40`, `2 1 2 42`, `3 1 1 41`, `end 3 107`."; 02, P7: "so marked example 9 ends in `end 3
--- 123`", and shared as before
+-- 9. "Input 01 0001 00 0001 FF 0001 88 (hex) prints `1 1 0 40`, `2 1 2 42`, `3 1 1 41`, `end 3
+-- 107`."; 02, P7: "so marked example 9 ends in `end 3 123`", and shared as before
 abbrev pub input9 : List ℕ
 input9 = 0x01 ∷ 0x00 ∷ 0x01 ∷ 0x00 ∷ 0x00 ∷ 0x01 ∷ 0xFF ∷ 0x00 ∷ 0x01 ∷ 0x88 ∷ []
 
 abbrev pub rows9 : List ℕ
 rows9 = 1 ∷ 1 ∷ 0 ∷ 40 ∷ 2 ∷ 1 ∷ 2 ∷ 42 ∷ 3 ∷ 1 ∷ 1 ∷ 41 ∷ []
 
--- 10. "Input 01: `end 0 0`. Length 2048 passes, 2049 and 0 are 6.": a list of one note, n bytes 00. That of 2,048 passes with a row, of which the
--- table has the first two numbers: to count its zeros here would take longer than all the rest
+-- 10. "Input 01: `end 0 0`. Length 2048 passes, 2049 and 0 are 6.": a list of one note, n bytes 00.
+-- That of 2,048 passes with a row, of which the table has the first two numbers: to count its zeros
+-- here would take longer than all the rest
 abbrev pub oneNote : ℕ → List ℕ
 oneNote n = 0x01 ∷ n / 256 ∷ n % 256 ∷ replicate n 0x00
 

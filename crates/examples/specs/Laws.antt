@@ -1,5 +1,5 @@
--- The marked examples of 01 hold, all of them in one theorem, by computing what the definitions give.
--- Assumes nothing.
+-- The marked examples of 01 hold, all of them in one theorem, by computing what the definitions
+-- give. Assumes nothing.
 use mathlib.Core.Path.{_≡_, refl}
 use mathlib.Core.List.{List, map}
 use Prim.Native.Nat.{ℕ}
@@ -12,7 +12,8 @@ use Rattle.report.specs.Report.{rowsFrom}
 use Rattle.examples.specs.Run.{after, given, ticks, heard, wired, digits}
 use Rattle.examples.specs.Examples.{Example, examples}
 
-pub marked-examples : map (λ (e : Example). e .gives) examples ≡ map (λ (e : Example). e .says) examples
+pub marked-examples : map (λ (e : Example). e .gives) examples
+    ≡ map (λ (e : Example). e .says) examples
 unfolding
     computing cells zeros readList restFrom readFrom headOf rowsFrom after given ticks heard wired digits
 marked-examples = refl

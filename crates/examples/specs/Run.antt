@@ -1,4 +1,5 @@
--- A run of a chip: events one after the other, what they answer, and a chip whose channel A sends to its channel B. Assumes nothing.
+-- A run of a chip: events one after the other, what they answer, and a chip whose channel A sends
+-- to its channel B. Assumes nothing.
 use mathlib.Core.List.{List, [], _∷_, _++_}
 use Prim.Native.Nat.{ℕ, zero, suc, _/_, _%_}
 use Rattle.channel.specs.Answer.{answerValue}
@@ -29,7 +30,9 @@ heard ch (b ∷ bs) = Receive ch b ∷ heard ch bs
 -- A's line is B's: n ticks of both
 unfoldable pub wired : ℕ → Chip → Chip
 wired zero c = c
-wired (suc n) c = wired n (step (step c (Transmit 0) .chip) (Receive 1 (answerValue (step c (Transmit 0) .answer))) .chip)
+wired (suc n) c =
+    wired n (step (step c (Transmit 0) .chip)
+    (Receive 1 (answerValue (step c (Transmit 0) .answer))) .chip)
 
 -- the n binary digits of v, as they are written
 unfoldable pub digits : ℕ → ℕ → List ℕ

@@ -1,5 +1,5 @@
--- A note that fits: the SDLC sender of a chip that is ready, fed to the end of its frame, is what the
--- drive of the whole chip leaves. Assumes nothing.
+-- A note that fits: the SDLC sender of a chip that is ready, fed to the end of its frame, is what
+-- the drive of the whole chip leaves. Assumes nothing.
 use mathlib.Core.Path.{_≡_, sym, ap, subst, _∙_}
 use mathlib.Core.Bool.{true}
 use mathlib.Core.List.{List, [], _∷_}

@@ -81,5 +81,6 @@ textAt-length list i k h =
     let rest = drop (i + lengthBytes) list in
     length-take-le k rest (omega (arith, length-drop (i + lengthBytes) list))
 
-pub noteAt-note : (list : List ℕ) (i k : ℕ) → headOf list i ≡ Note k → noteAt list i ≡ textAt list i k
+pub noteAt-note : (list : List ℕ) (i k : ℕ) → headOf list i ≡ Note k
+    → noteAt list i ≡ textAt list i k
 noteAt-note list i k e = ap (textOf list i) e

@@ -1,5 +1,5 @@
--- What only chips with a history have: a story keeps it, every chip behind a hard reset has it, and it is what the premises of demands 2 and 3
--- ask beyond the demands' own words. Assumes nothing.
+-- What only chips with a history have: a story keeps it, every chip behind a hard reset has it, and
+-- it is what the premises of demands 2 and 3 ask beyond the demands' own words. Assumes nothing.
 use mathlib.Core.Path.{_≡_}
 use mathlib.Core.List.{List, [], _∷_}
 use lib.ListN.{length}

@@ -5,7 +5,8 @@ use Prim.Native.Nat.{ℕ}
 use Rattle.chip.specs.Computing.{computing}
 use Rattle.chip.specs.Event.{Event}
 use Rattle.tales.specs.Tale.{after, given, times, digits, reads, line}
-use Rattle.tales.specs.Words.{command, hears, writes, takes, ticks, sendAbort, presetSent, clearUnderrun}
+use Rattle.tales.specs.Words.{command, hears, writes, takes, ticks, sendAbort, presetSent}
+use Rattle.tales.specs.Words.{clearUnderrun}
 use Rattle.tales.specs.Words.{sdlc, hearing, framing, flag, ones}
 use Rattle.hosting.specs.Happens.{happens}
 
@@ -17,7 +18,8 @@ holding v = framing 0 ++ writes 0 v
 abbrev anew : List Event
 anew = command 0 presetSent ++ command 0 clearUnderrun
 
--- F8 owes a zero behind its last bit, so it lasts nine ticks: 55 comes behind the eighth tick after its load
+-- F8 owes a zero behind its last bit, so it lasts nine ticks: 55 comes behind the eighth tick after
+-- its load
 abbrev ninth : List Event
 ninth = holding 0xF8 ++ ticks 0 17 ++ writes 0 0x55
 
@@ -40,7 +42,8 @@ pub record Told : Type 0 where
   pub ninth-loaded : line happens ninth 0 8 ≡ digits 8 0b10101010
   -- "bytes written after the abort belong to another frame": eight ones, a flag, 55
   pub after-abort : line happens behindAbort 0 24 ≡ digits 24 0b111111110111111010101010
-  -- "never reports an end for the frame": neither the oldest entry nor the one that overran has an end mark
+  -- "never reports an end for the frame": neither the oldest entry nor the one that overran has an
+  -- end mark
   pub oldest-no-end : reads happens overflown 0 1 ≡ 0x01
   pub newest-no-end : reads happens (overflown ++ takes 0 2) 0 1 ≡ 0x21
   -- "one 0 is owed and sent next, even before the flag": the frame of 88 ends so

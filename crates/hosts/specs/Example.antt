@@ -1,5 +1,6 @@
--- Hosts that are not in time, computed: a byte that comes between the eighth and the ninth tick, one written over
--- another, one that lets the opening flag pass, and the incident's. Then the theorems, said of them. Assumes nothing.
+-- Hosts that are not in time, computed: a byte that comes between the eighth and the ninth tick,
+-- one written over another, one that lets the opening flag pass, and the incident's. Then the
+-- theorems, said of them. Assumes nothing.
 use mathlib.Core.Path.{_≡_, refl}
 use mathlib.Core.Bool.{true, false}
 use mathlib.Core.List.{List, [], _∷_, _++_}
@@ -22,13 +23,16 @@ use Rattle.hosts.specs.Line.{every-host}
 use Rattle.hosts.specs.Punctual.{in-time-loads}
 use Rattle.hosts.specs.Late.{incident-told}
 
--- 1F owes a zero behind its five ones, so it lasts nine ticks: the next byte comes behind the eighth of them
+-- 1F owes a zero behind its five ones, so it lasts nine ticks: the next byte comes behind the
+-- eighth of them
 abbrev pub ninth : List Event
 ninth = DataWrite 0 0x1F ∷ (times 6 tick ++ (times 8 tick ++ (DataWrite 0 0 ∷ times 32 tick)))
 
 -- 1 is written over before the flag ends, and 3 comes once the latch is set
 abbrev pub over : List Event
-over = DataWrite 0 1 ∷ (times 2 tick ++ (DataWrite 0 2 ∷ (times 12 tick ++ (DataWrite 0 3 ∷ times 23 tick))))
+over =
+    DataWrite 0 1 ∷
+    (times 2 tick ++ (DataWrite 0 2 ∷ (times 12 tick ++ (DataWrite 0 3 ∷ times 23 tick))))
 
 -- the opening flag passes, and the next one is the frame's
 abbrev pub idle : List Event
@@ -82,18 +86,21 @@ ninth-sent : flagHead 3 ++ lineOf A begin ninth ≡ frame (0x1F ∷ 0 ∷ [])
 unfolding flags
 ninth-sent =
     rw (examples .ninth-loaded, examples .ninth-passed) at
-    (every-host A begin 3 ninth sending.starts (host-of A begin ninth (examples .ninth-hosted)) .whole (examples .ninth-closed))
+    (every-host A begin 3 ninth sending.starts
+    (host-of A begin ninth (examples .ninth-hosted)) .whole (examples .ninth-closed))
 
 over-sent : flagHead 3 ++ lineOf A begin over ≡ frame (2 ∷ [])
 unfolding flags
 over-sent =
     rw (examples .over-loaded, examples .over-passed) at
-    (every-host A begin 3 over sending.starts (host-of A begin over (examples .over-hosted)) .whole (examples .over-closed))
+    (every-host A begin 3 over sending.starts (host-of A begin over (examples .over-hosted)) .whole
+    (examples .over-closed))
 
 idle-sent : flagHead 3 ++ lineOf A begin idle ≡ flags 1 ++ frame (2 ∷ [])
 idle-sent =
     rw (examples .idle-loaded, examples .idle-passed) at
-    (every-host A begin 3 idle sending.starts (host-of A begin idle (examples .idle-hosted)) .whole (examples .idle-closed))
+    (every-host A begin 3 idle sending.starts (host-of A begin idle (examples .idle-hosted)) .whole
+    (examples .idle-closed))
 
 noisy-punctual : Punctual A begin noisy (255 ∷ 136 ∷ [])
 unfolding ticks times stuff zeros textBits lowBits checkOver checkStep checkBits topBits

@@ -1,5 +1,6 @@
--- The host that comes too late: behind the tick that finds the line dry nothing is loaded until the frame is closed,
--- so it is the frame of the bytes loaded so far; and the incident. Assumes nothing.
+-- The host that comes too late: behind the tick that finds the line dry nothing is loaded until the
+-- frame is closed, so it is the frame of the bytes loaded so far; and the incident. Assumes
+-- nothing.
 use mathlib.Core.Path.{_≡_, refl, sym, ap, ap₂, _∙_, subst}
 use mathlib.Core.Bool.{true, false, _&&_}
 use mathlib.Core.List.{List, [], _∷_, _++_, append-assoc, append-nil}
@@ -30,7 +31,8 @@ use Rattle.timely.specs.Free.{Free}
 use Rattle.timely.specs.Free as free
 use Rattle.sending.specs.Statement.{RunsDry}
 use Rattle.sending.specs.Underrun.{underrun-seen}
-use Rattle.hosts.specs.Loaded.{senderOf, loads, loaded, idles, onMore, passed, flags, closed, Host}
+use Rattle.hosts.specs.Loaded.{senderOf, loads, loaded, idles, onMore, passed, flags, closed}
+use Rattle.hosts.specs.Loaded.{Host}
 use Rattle.hosts.specs.Loaded.{rests, still, writes, ticking}
 use Rattle.hosts.specs.Steps.{inCheck}
 use Rattle.hosts.specs.Statement.{FedLate, IncidentTold, NoIncident}
@@ -44,7 +46,8 @@ host-free w (still r k h) = free.still r k (host-free w h)
 host-free w (writes h) = free.writes (host-free w h)
 host-free w (ticking e h) = free.ticking (host-free w h)
 
-pub host-join : (w : Which) {c : Chip} {xs : List Event} (ys : List Event) → Host w c xs → Host w (after c xs) ys
+pub host-join : (w : Which) {c : Chip} {xs : List Event} (ys : List Event) → Host w c xs
+    → Host w (after c xs) ys
     → Host w c (xs ++ ys)
 unfolding after
 host-join w ys rests h = h
@@ -59,13 +62,16 @@ loaded-join w c [] ys = refl
 loaded-join w c (x ∷ xs) ys =
     let d = happens c x .chip in
     let l = loads (isTick w x) (senderOf w c) (senderOf w d) in
-    ap (λ (b : List ℕ). l ++ b) (loaded-join w d xs ys) ∙ sym (append-assoc l (loaded w d xs) (loaded w (after d xs) ys))
+    ap (λ (b : List ℕ). l ++ b) (loaded-join w d xs ys)
+    ∙ sym (append-assoc l (loaded w d xs) (loaded w (after d xs) ys))
 
 -- no flag passes behind xs
-passed-join : (w : Which) (c : Chip) (xs ys : List Event) → passed w (after c xs) ys ≡ 0 → passed w c (xs ++ ys) ≡ passed w c xs
+passed-join : (w : Which) (c : Chip) (xs ys : List Event) → passed w (after c xs) ys ≡ 0
+    → passed w c (xs ++ ys) ≡ passed w c xs
 unfolding passed after
 passed-join w c [] ys e = e
-passed-join w c (x ∷ xs) ys e = ap (onMore (isTick w x && idles (senderOf w c))) (passed-join w (happens c x .chip) xs ys e)
+passed-join w c (x ∷ xs) ys e =
+    ap (onMore (isTick w x && idles (senderOf w c))) (passed-join w (happens c x .chip) xs ys e)
 
 -- The tick that finds the line dry
 
@@ -73,7 +79,8 @@ module _ (w : Which) (c : Chip) (d : RunsDry w c) where
   abbrev dried : Framer
   dried =
       let s = chan w c .sender in
-      framer (Byte 0 (d .last)) (insertion (s .insertion .run) false) (shared (s .shared .buffer) false false (s .shared .check))
+      framer (Byte 0 (d .last)) (insertion (s .insertion .run) false)
+      (shared (s .shared .buffer) false false (s .shared .check))
 
   dry-side : sideOf w c ≡ side dried good
   dry-side =
@@ -87,7 +94,8 @@ module _ (w : Which) (c : Chip) (d : RunsDry w c) where
       let s = chan w c .sender in
       let y = complement (s .shared .check) in
       let r = s .insertion .run in
-      framer (Check 15 (shifted y)) (insertion (runAfter r (top y)) (owes r (top y))) (shared (s .shared .buffer) false true (s .shared .check))
+      framer (Check 15 (shifted y)) (insertion (runAfter r (top y)) (owes r (top y)))
+      (shared (s .shared .buffer) false true (s .shared .check))
 
   dry-ticks : sideOf w (happens c (Transmit (number w)) .chip) ≡ side checked good
   dry-ticks =
@@ -96,8 +104,10 @@ module _ (w : Which) (c : Chip) (d : RunsDry w c) where
       let r = s .insertion .run in
       let e : tickedOf w c ≡ framed (top (complement (s .shared .check))) false checked =
       ap (λ (x : SenderSide). tickSdlc come.good (x .sender)) dry-side
-      ∙ tick-chooses come.good r k (Byte 0 (d .last)) refl ∙ next-byte-check come.good r k refl 0 (d .last) refl refl refl in
-      tick-side w c (ap (λ (x : SenderSide). x .heeds) dry-side) ∙ ap (λ (x : Framed). side (x .framer) good) e
+      ∙ tick-chooses come.good r k (Byte 0 (d .last)) refl
+      ∙ next-byte-check come.good r k refl 0 (d .last) refl refl refl in
+      tick-side w c (ap (λ (x : SenderSide). x .heeds) dry-side)
+      ∙ ap (λ (x : Framed). side (x .framer) good) e
 
   -- nothing is loaded from there on, and no flag passes
   dry-none : (ys : List Event) → Host w (happens c (Transmit (number w)) .chip) ys
@@ -105,8 +115,11 @@ module _ (w : Which) (c : Chip) (d : RunsDry w c) where
   dry-none ys h =
       let was = ap (λ (x : SenderSide). x .sender) dry-side in
       let is = ap (λ (x : SenderSide). x .sender) dry-ticks in
-      let k = kept w h checked dry-ticks (inCheck _ _ _ _ _ _ _) in
-      (tick-loaded w c ys dried checked was is ∙ k .may-be .1, tick-passed w c ys dried was ∙ k .may-be .0)
+      let k = kept w h checked dry-ticks (inCheck _ _ _ _ _ _ _) in (
+        tick-loaded w c ys dried checked was is ∙ k .may-be .1,
+        tick-passed w c ys dried was
+            ∙ k .may-be .0,
+      )
 
   dry-open : closed w c ≡ false
   dry-open = ap (λ (x : SenderSide). frameEnded (x .sender)) dry-side
@@ -118,7 +131,8 @@ fed-late w c p xs ys s h d l e =
     let z = dry-none w (after c xs) d ys l in
     every-host w c p (xs ++ more) s all .whole e
     ∙ ap₂ (λ (n : ℕ) (b : List ℕ). flags n ++ frame b) (passed-join w c xs more (z .1))
-    (loaded-join w c xs more ∙ ap (λ (b : List ℕ). loaded w c xs ++ b) (z .0) ∙ append-nil (loaded w c xs))
+    (loaded-join w c xs more ∙ ap (λ (b : List ℕ). loaded w c xs ++ b) (z .0)
+    ∙ append-nil (loaded w c xs))
 
 below-front : (xs ys : List ℕ) → Below 256 (xs ++ ys) → Below 256 xs
 below-front [] ys h = below-none
@@ -131,11 +145,20 @@ incident-told w c p meant xs ys i =
     record {
       line = fed-late w c p xs ys (i .start) (i .fed) (i .dry) (i .late) (i .ends);
       other = λ b e.
-          let f = frame-same (below-front (loaded w c xs) (i .missing ∷ i .more) (subst (Below 256) (i .front) b)) b e in
-          omega (arith, ap length (f ∙ i .front), length-append (loaded w c xs) (i .missing ∷ i .more));
-      seen = ap (d6 w) j ∙ underrun-seen w (after c xs) ys (i .dry) (i .unlatched) (host-free w (i .late))
+          let f =
+          frame-same (below-front (loaded w c xs) (i .missing ∷ i .more)
+          (subst (Below 256) (i .front) b)) b e in
+          omega (
+            arith,
+            ap length (f ∙ i .front),
+            length-append (loaded w c xs) (i .missing ∷ i .more),
+          );
+      seen =
+          ap (d6 w) j ∙ underrun-seen w (after c xs) ys (i .dry) (i .unlatched)
+          (host-free w (i .late))
           (ap (λ (d : Chip). chan w d .pointer) (sym j) ∙ i .looks);
     }
 
 pub no-incident : NoIncident
-no-incident w c p meant xs ys i = void (sym (i .unseen) ∙ incident-told w c p meant xs ys (i .starved) .seen)
+no-incident w c p meant xs ys i =
+    void (sym (i .unseen) ∙ incident-told w c p meant xs ys (i .starved) .seen)

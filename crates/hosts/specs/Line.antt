@@ -1,5 +1,5 @@
--- Every host's line: what was sent and what would come, if nothing more were loaded, are the frame of the bytes
--- loaded, at every moment. One induction over the story. Assumes nothing.
+-- Every host's line: what was sent and what would come, if nothing more were loaded, are the frame
+-- of the bytes loaded, at every moment. One induction over the story. Assumes nothing.
 use mathlib.Core.Path.{_≡_, refl, sym, ap, ap₂, _∙_, subst}
 use mathlib.Core.Bool.{Bool, true, false, _&&_}
 use mathlib.Core.List.{List, [], _∷_, _++_, append-assoc, append-nil}
@@ -25,14 +25,17 @@ use Rattle.whole.specs.Laws.Start.{head-tail}
 use Rattle.stories.specs.Story.{Which, number, chan, happens, after}
 use Rattle.stories.specs.Sent.{ticksBy, isTick, lineOf, ticks}
 use Rattle.history.specs.Sending.Side.{good, SenderSide, side, sideOf}
-use Rattle.history.specs.Sending.Events.{tickedOf, tick-side, tick-bit, tick-counts, tick-more, write-side}
+use Rattle.history.specs.Sending.Events.{tickedOf, tick-side, tick-bit, tick-counts, tick-more}
+use Rattle.history.specs.Sending.Events.{write-side}
 use Rattle.history.specs.Sending.Events.{write-no-tick, skip-line, skip-ticks}
 use Rattle.timely.specs.Start.{start-side}
 use Rattle.timely.specs.Free as free
 use Rattle.sending.specs.Frame.{sent-length}
-use Rattle.hosts.specs.Loaded.{senderOf, leaves, loads, loaded, idles, onMore, passed, flags, closed}
+use Rattle.hosts.specs.Loaded.{senderOf, leaves, loads, loaded, idles, onMore, passed, flags}
+use Rattle.hosts.specs.Loaded.{closed}
 use Rattle.hosts.specs.Loaded.{Host, rests, still, writes, ticking}
-use Rattle.hosts.specs.Steps.{Going, opening, inByte, inCheck, closing, ahead, May, unopened, flagLeft}
+use Rattle.hosts.specs.Steps.{Going, opening, inByte, inCheck, closing, ahead, May, unopened}
+use Rattle.hosts.specs.Steps.{flagLeft}
 use Rattle.hosts.specs.Steps.{steps}
 use Rattle.hosts.specs.Statement.{EveryHost, Front, HostFront}
 
@@ -48,11 +51,13 @@ skip-loaded w c x st z =
 pub skip-passed : (w : Which) (c : Chip) (x : Event) (st : List Event) → isTick w x ≡ false
     → passed w c (x ∷ st) ≡ passed w (happens c x .chip) st
 unfolding passed
-skip-passed w c x st z = ap (λ (t : Bool). onMore (t && idles (senderOf w c)) (passed w (happens c x .chip) st)) z
+skip-passed w c x st z =
+    ap (λ (t : Bool). onMore (t && idles (senderOf w c)) (passed w (happens c x .chip) st)) z
 
 pub tick-loaded : (w : Which) (c : Chip) (st : List Event) (s t : Framer) → senderOf w c ≡ s
     → senderOf w (happens c (Transmit (number w)) .chip) ≡ t
-    → loaded w c (Transmit (number w) ∷ st) ≡ leaves s t ++ loaded w (happens c (Transmit (number w)) .chip) st
+    → loaded w c (Transmit (number w) ∷ st)
+    ≡ leaves s t ++ loaded w (happens c (Transmit (number w)) .chip) st
 unfolding loaded
 tick-loaded w c st s t e f =
     let d = happens c (Transmit (number w)) .chip in
@@ -91,10 +96,12 @@ none-yet (inByte k x r o b f c) = refl
 none-yet (inCheck k x r o b f c) = (refl, refl)
 none-yet (closing k b f c) = (refl, refl)
 
--- an event that is no tick, from what is so behind it; it changes no more of the sender than its buffer
+-- an event that is no tick, from what is so behind it; it changes no more of the sender than its
+-- buffer
 skip : (w : Which) (c : Chip) (x : Event) (st : List Event) (s t : Framer) → isTick w x ≡ false
     → ((n : ℕ) (bytes : List ℕ) → May t n bytes → May s n bytes)
-    → ((n : ℕ) (bytes : List ℕ) → ahead t n bytes ≡ ahead s n bytes) → (unopened s ≡ unopened t) → (flagLeft (s .unit) ≡ flagLeft (t .unit))
+    → ((n : ℕ) (bytes : List ℕ) → ahead t n bytes ≡ ahead s n bytes) → (unopened s ≡ unopened t)
+    → (flagLeft (s .unit) ≡ flagLeft (t .unit))
     → Kept w (happens c x .chip) st t → Kept w c (x ∷ st) s
 unfolding after
 skip w c x st s t z m a u f k =
@@ -104,13 +111,25 @@ skip w c x st s t z m a u f k =
       last = k .last;
       there = k .there;
       going = k .going;
-      may-be = subst (May s (passed w c (x ∷ st))) l (subst (λ (n : ℕ). May s n (loaded w (happens c x .chip) st)) p (m _ _ (k .may-be)));
-      whole = ap (λ (b : List Bool). b ++ ahead (k .last) 0 []) (skip-line w c x st z) ∙ k .whole ∙ a _ _ ∙ ap₂ (ahead s) p l;
+      may-be =
+          subst (May s (passed w c (x ∷ st))) l
+          (subst (λ (n : ℕ). May s n (loaded w (happens c x .chip) st)) p (m _ _ (k .may-be)));
+      whole =
+          ap (λ (b : List Bool). b ++ ahead (k .last) 0 []) (skip-line w c x st z) ∙ k .whole
+          ∙ a _ _ ∙ ap₂ (ahead s) p l;
       some = λ o v. subst (λ (b : List ℕ). 1 ≤ length b) l (k .some (sym u ∙ o) v);
-      few = λ h. omega (arith, skip-ticks w x st z, ap (λ (n : ℕ). 8 * n) p, f, k .few (subst (λ (n : ℕ). n ≤ 7) f h));
+      few =
+          λ h. omega (
+            arith,
+            skip-ticks w x st z,
+            ap (λ (n : ℕ). 8 * n) p,
+            f,
+            k .few (subst (λ (n : ℕ). n ≤ 7) f h),
+          );
     }
 
-pub kept : (w : Which) {c : Chip} {st : List Event} → Host w c st → (s : Framer) → sideOf w c ≡ side s good → Going s → Kept w c st s
+pub kept : (w : Which) {c : Chip} {st : List Event} → Host w c st → (s : Framer)
+    → sideOf w c ≡ side s good → Going s → Kept w c st s
 unfolding lineOf after loaded passed ticks
 kept w rests s e g = record {
   last = s;
@@ -122,17 +141,22 @@ kept w rests s e g = record {
   few = λ h. omega arith;
 }
 kept w (still {c = c} {e = x} {st = st} r k h) s e g =
-    skip w c x st s s (ap ticksBy r) (λ n bytes m. m) (λ n bytes. refl) refl refl (kept w h s (k ∙ e) g)
+    skip w c x st s s (ap ticksBy r) (λ n bytes m. m) (λ n bytes. refl) refl refl
+    (kept w h s (k ∙ e) g)
 kept w (writes {c = c} {v = v} {st = st} h) s e g =
-    skip w c (DataWrite (number w) v) st s (filledWith s v) (write-no-tick w v) (λ n bytes m. m) (λ n bytes. refl) refl refl
-    (kept w h (filledWith s v) (write-side w c v ∙ ap (λ (x : SenderSide). side (filledWith (x .sender) v) (x .heeds)) e) (going-filled v g))
+    skip w c (DataWrite (number w) v) st s (filledWith s v) (write-no-tick w v) (λ n bytes m. m)
+    (λ n bytes. refl) refl refl
+    (kept w h (filledWith s v)
+    (write-side w c v ∙ ap (λ (x : SenderSide). side (filledWith (x .sender) v) (x .heeds)) e)
+    (going-filled v g))
 kept w (ticking {c = c} {st = st} f h) s e g =
     let d = happens c (Transmit (number w)) .chip in
     let was : senderOf w c ≡ s = ap (λ (x : SenderSide). x .sender) e in
     let heeds = ap (λ (x : SenderSide). x .heeds) e in
     let t = steps g (ap frameEnded (sym was) ∙ f) in
     let same : tickedOf w c ≡ _ = ap (tickSdlc come.good) was ∙ t .ticks in
-    let y : sideOf w d ≡ side (t .next) good = tick-side w c heeds ∙ ap (λ (x : Framed). side (x .framer) good) same in
+    let y : sideOf w d ≡ side (t .next) good =
+    tick-side w c heeds ∙ ap (λ (x : Framed). side (x .framer) good) same in
     let k = kept w h (t .next) y (t .going) in
     let p = sym (tick-passed w c st s was) in
     let l = sym (tick-loaded w c st s (t .next) was (ap (λ (x : SenderSide). x .sender) y)) in
@@ -143,16 +167,22 @@ kept w (ticking {c = c} {st = st} f h) s e g =
       there = k .there;
       going = k .going;
       may-be = subst (May s (passed w c (Transmit (number w) ∷ st))) l
-          (subst (λ (j : ℕ). May s j bytes) p (t .may-be (passed w d st) (loaded w d st) (k .may-be)));
+          (subst (λ (j : ℕ). May s j bytes) p
+          (t .may-be (passed w d st) (loaded w d st) (k .may-be)));
       whole =
-          ap (λ (b : List Bool). (b ++ lineOf w d st) ++ ahead (k .last) 0 []) (tick-bit w c heeds ∙ ap (λ (x : Framed). x .bit ∷ []) same)
+          ap (λ (b : List Bool). (b ++ lineOf w d st) ++ ahead (k .last) 0 [])
+          (tick-bit w c heeds ∙ ap (λ (x : Framed). x .bit ∷ []) same)
           ∙ ap (λ (b : List Bool). t .sent ∷ b) (k .whole)
           ∙ sym (t .head (passed w d st) (loaded w d st) (k .may-be))
           ∙ ap₂ (ahead s) p l;
       some = λ o u. subst (λ (b : List ℕ). 1 ≤ length b) l
           (bool-or (unopened (t .next))
           (λ i. omega (arith, k .some i u, length-append (leaves s (t .next)) (loaded w d st)))
-          (λ i. omega (arith, ap length (t .first o i), length-append (leaves s (t .next)) (loaded w d st))));
+          (λ i. omega (
+            arith,
+            ap length (t .first o i),
+            length-append (leaves s (t .next)) (loaded w d st),
+          )));
       few = λ i. omega (
         arith,
         tick-more w st,
@@ -163,13 +193,15 @@ kept w (ticking {c = c} {st = st} f h) s e g =
 
 -- The theorem
 
-pub flags-swap : (n : ℕ) (xs : List Bool) → flagBits ++ (flags n ++ xs) ≡ flags n ++ (flagBits ++ xs)
+pub flags-swap : (n : ℕ) (xs : List Bool)
+    → flagBits ++ (flags n ++ xs) ≡ flags n ++ (flagBits ++ xs)
 unfolding flags
 flags-swap zero xs = refl
 flags-swap (suc n) xs = ap (λ (l : List Bool). flagBits ++ l) (flags-swap n xs)
 
 -- what comes at the start is the frame less the bits that are sent
-at-start : (p b n : ℕ) (bytes : List ℕ) → 1 ≤ p → p ≤ 8 → flagHead p ++ ahead (started p b) n bytes ≡ flags n ++ frame bytes
+at-start : (p b n : ℕ) (bytes : List ℕ) → 1 ≤ p → p ≤ 8
+    → flagHead p ++ ahead (started p b) n bytes ≡ flags n ++ frame bytes
 unfolding come.closed
 at-start p b n bytes h l =
     let rest = flags n ++ come.closed 0 ones [] bytes in
@@ -178,7 +210,8 @@ at-start p b n bytes h l =
     ∙ flags-swap n (come.closed 0 ones [] bytes)
 
 -- nothing comes behind the closing flag
-pub ended-none : {s : Framer} → Going s → frameEnded s ≡ true → (ahead s 0 [] ≡ []) × (unopened s ≡ false)
+pub ended-none : {s : Framer} → Going s → frameEnded s ≡ true
+    → (ahead s 0 [] ≡ []) × (unopened s ≡ false)
 ended-none (opening k b f c) e = void e
 ended-none (inByte k x r o b f c) e = void e
 ended-none (inCheck k x r o b f c) e = void e
@@ -191,11 +224,16 @@ not-aborting (inByte k x r o b f c) = refl
 not-aborting (inCheck k x r o b f c) = refl
 not-aborting (closing k b f c) = refl
 
-closed-some : (r c : ℕ) (bits : List Bool) (bytes : List ℕ) → 8 ≤ length (come.closed r c bits bytes)
+closed-some : (r c : ℕ) (bits : List Bool) (bytes : List ℕ)
+    → 8 ≤ length (come.closed r c bits bytes)
 unfolding come.closed
 closed-some r c bits bytes =
     let text = textBits 8 bytes in
-    omega (arith, length-append (stuff r (bits ++ (text ++ checkBits (checkOver sdlc c text)))) flagBits)
+    omega (
+      arith,
+      length-append
+          (stuff r (bits ++ (text ++ checkBits (checkOver sdlc c text)))) flagBits,
+    )
 
 -- and something before its end
 unended-some : {s : Framer} → Going s → frameEnded s ≡ false → 1 ≤ length (ahead s 0 [])
@@ -217,23 +255,37 @@ every-host w c p st s h =
     let sent = flagHead p ++ lineOf w c st in
     let rest = ahead (k .last) 0 [] in
     let q : sent ++ rest ≡ flags (passed w c st) ++ frame (loaded w c st) =
-    append-assoc (flagHead p) (lineOf w c st) rest ∙ ap (λ (l : List Bool). flagHead p ++ l) (k .whole)
+    append-assoc (flagHead p) (lineOf w c st) rest
+    ∙ ap (λ (l : List Bool). flagHead p ++ l) (k .whole)
     ∙ at-start p b (passed w c st) (loaded w c st) (s .some) (s .inside) in
     let there = ap (λ (x : SenderSide). frameEnded (x .sender)) (k .there) in
     record {
-      begun = sym (take-at sent rest (p + ticks w st) (sent-length w c p st (s .inside))) ∙ ap (take (p + ticks w st)) q;
-      whole = λ e. sym (ap (λ (l : List Bool). sent ++ l) (ended-none (k .going) (sym there ∙ e) .0) ∙ append-nil sent) ∙ q;
+      begun =
+          sym (take-at sent rest (p + ticks w st) (sent-length w c p st (s .inside)))
+          ∙ ap (take (p + ticks w st)) q;
+      whole =
+          λ e. sym (ap (λ (l : List Bool). sent ++ l) (ended-none (k .going) (sym there ∙ e) .0)
+          ∙ append-nil sent) ∙ q;
       some = λ e. k .some refl (ended-none (k .going) (sym there ∙ e) .1);
-      unfinished = λ e. omega (arith, unended-some (k .going) (sym there ∙ e), ap length q, length-append sent rest, sent-length w c p st (s .inside));
+      unfinished =
+          λ e. omega (
+            arith,
+            unended-some (k .going) (sym there ∙ e),
+            ap length q,
+            length-append sent rest,
+            sent-length w c p st (s .inside),
+          );
       begins = omega (arith, k .few (omega (arith, s .some)), s .inside, s .some);
       heeds = ap (λ (x : SenderSide). x .heeds) (k .there);
-      uncut = ap (λ (x : SenderSide). aborting (x .sender .unit)) (k .there) ∙ not-aborting (k .going);
+      uncut =
+          ap (λ (x : SenderSide). aborting (x .sender .unit)) (k .there) ∙ not-aborting (k .going);
     }
 
 -- A free host's story begins with one of these
 
 -- one event more in front
-front-more : (w : Which) (c : Chip) (x : Event) (st : List Event) (i : Front w (happens c x .chip) st)
+front-more : (w : Which) (c : Chip) (x : Event) (st : List Event)
+    (i : Front w (happens c x .chip) st)
     → Host w c (x ∷ i .front) → Front w c (x ∷ st)
 unfolding after
 front-more w c x st i h = record {
@@ -246,7 +298,8 @@ front-more w c x st i h = record {
 
 pub host-front : HostFront
 unfolding after
-host-front w c _ free.ended = record { front = []; behind = []; joined = refl; host = rests; ended = λ e. refl }
+host-front w c _ free.ended =
+    record { front = []; behind = []; joined = refl; host = rests; ended = λ e. refl }
 host-front w c _ (free.still {e = x} {st = st} r k f) =
     let i = host-front w (happens c x .chip) st f in front-more w c x st i (still r k (i .host))
 host-front w c _ (free.writes {v = v} {st = st} f) =
@@ -256,5 +309,13 @@ host-front w c _ (free.writes {v = v} {st = st} f) =
 host-front w c _ (free.ticking {st = st} f) =
     let x = Transmit (number w) in
     bool-or (closed w c)
-    (λ z. record { front = []; behind = x ∷ st; joined = refl; host = rests; ended = λ e. void (sym e ∙ z) })
-    (λ z. let i = host-front w (happens c x .chip) st f in front-more w c x st i (ticking z (i .host)))
+    (λ z. record {
+      front = [];
+      behind = x ∷ st;
+      joined = refl;
+      host = rests;
+      ended = λ e. void
+          (sym e ∙ z);
+    })
+    (λ z. let i = host-front w (happens c x .chip) st f in front-more w c x st i
+    (ticking z (i .host)))

@@ -1,5 +1,5 @@
--- What a story loads, and a host of any kind within one frame. Demand 3: "the frame holds just the bytes loaded so
--- far". Assumes nothing.
+-- What a story loads, and a host of any kind within one frame. Demand 3: "the frame holds just the
+-- bytes loaded so far". Assumes nothing.
 use mathlib.Core.Path.{_≡_}
 use mathlib.Core.Bool.{Bool, true, false, not, _&&_}
 use mathlib.Core.List.{List, [], _∷_, _++_}
@@ -35,9 +35,11 @@ loads false s t = []
 unfoldable pub loaded : Which → Chip → List Event → List ℕ
 loaded w c [] = []
 loaded w c (e ∷ st) =
-    loads (isTick w e) (senderOf w c) (senderOf w (happens c e .chip)) ++ loaded w (happens c e .chip) st
+    loads (isTick w e) (senderOf w c) (senderOf w (happens c e .chip))
+    ++ loaded w (happens c e .chip) st
 
--- "After flag: byte if the buffer is full, else flag": a tick that lets an opening flag pass begins another one
+-- "After flag: byte if the buffer is full, else flag": a tick that lets an opening flag pass begins
+-- another one
 abbrev pub flagOver : LineUnit → Bool
 flagOver Mark = false
 flagOver (Flag n) = eqb n 0
@@ -66,13 +68,15 @@ flags (suc n) = flagBits ++ flags n
 abbrev pub closed : Which → Chip → Bool
 closed w c = frameEnded (senderOf w c)
 
--- Every host: it ticks and writes as it likes, in time or not, one byte over another, until the closing flag is
--- out; all else leaves the sender's side as it is
+-- Every host: it ticks and writes as it likes, in time or not, one byte over another, until the
+-- closing flag is out; all else leaves the sender's side as it is
 pub data Host (w : Which) : Chip → List Event → Type 0 where
   rests : {c : Chip} → Host w c []
   still : {c : Chip} {e : Event} {st : List Event} → role w e ≡ Else
-      → sideOf w (happens c e .chip) ≡ sideOf w c → Host w (happens c e .chip) st → Host w c (e ∷ st)
-  writes : {c : Chip} {v : ℕ} {st : List Event} → Host w (happens c (DataWrite (number w) v) .chip) st
+      → sideOf w (happens c e .chip) ≡ sideOf w c → Host w (happens c e .chip) st
+      → Host w c (e ∷ st)
+  writes : {c : Chip} {v : ℕ} {st : List Event}
+      → Host w (happens c (DataWrite (number w) v) .chip) st
       → Host w c (DataWrite (number w) v ∷ st)
   ticking : {c : Chip} {st : List Event} → closed w c ≡ false
       → Host w (happens c (Transmit (number w)) .chip) st → Host w c (Transmit (number w) ∷ st)

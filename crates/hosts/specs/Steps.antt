@@ -1,5 +1,6 @@
--- One tick of a sender within a frame, whatever waits in its buffer: what comes on the line is given by the bytes that
--- will be loaded and by the flags that will pass before the first of them. Assumes nothing.
+-- One tick of a sender within a frame, whatever waits in its buffer: what comes on the line is
+-- given by the bytes that will be loaded and by the flags that will pass before the first of them.
+-- Assumes nothing.
 use mathlib.Core.Path.{_≡_, refl, sym, ap, _∙_}
 use mathlib.Core.Bool.{Bool, true, false, not, _&&_}
 use mathlib.Core.List.{List, [], _∷_, _++_}
@@ -41,8 +42,10 @@ abbrev pub comes : Insertion → Bool → ℕ → ℕ → List ℕ → LineUnit 
 comes i latch check n bytes Mark = []
 comes i latch check n bytes (Flag m) =
     if latch then flagTail m else flagTail m ++ (flags n ++ come.closed (i .run) check [] bytes)
-comes i latch check n bytes (Byte m v) = zeroIf (i .owed) ++ come.closed (i .run) check (lowBits m v) bytes
-comes i latch check n bytes (Check m v) = zeroIf (i .owed) ++ (stuff (i .run) (topBits m v) ++ flagBits)
+comes i latch check n bytes (Byte m v) =
+    zeroIf (i .owed) ++ come.closed (i .run) check (lowBits m v) bytes
+comes i latch check n bytes (Check m v) =
+    zeroIf (i .owed) ++ (stuff (i .run) (topBits m v) ++ flagBits)
 comes i latch check n bytes (Abort m) = []
 
 abbrev pub ahead : Framer → ℕ → List ℕ → List Bool
@@ -90,7 +93,8 @@ pub record Steps (s : Framer) : Type 0 where
   pub next : Framer
   pub ticks : tickSdlc good s ≡ framed sent load next
   pub going : Going next
-  pub may-be : (n : ℕ) (bytes : List ℕ) → May next n bytes → May s (onMore (idles s) n) (leaves s next ++ bytes)
+  pub may-be : (n : ℕ) (bytes : List ℕ) → May next n bytes
+      → May s (onMore (idles s) n) (leaves s next ++ bytes)
   pub head : (n : ℕ) (bytes : List ℕ) → May next n bytes
       → ahead s (onMore (idles s) n) (leaves s next ++ bytes) ≡ sent ∷ ahead next n bytes
   pub kept : (rest : List ℕ) → (next .shared .latch ≡ true → s .shared .latch ≡ false → rest ≡ [])
@@ -144,7 +148,9 @@ steps (opening zero b true c) e =
       ticks = tick-chooses good 0 x (Flag 0) refl ∙ next-flag-full good 0 x refl 0 refl;
       going = inByte 7 (b / 2) (i .run) (i .owed) b false d;
       may-be = λ n bytes m. tt;
-      head = λ n bytes m. ap (λ (j : ℕ). flags j ++ come.closed 0 c [] (b ∷ bytes)) m ∙ load 0 c b bytes;
+      head =
+          λ n bytes m. ap (λ (j : ℕ). flags j ++ come.closed 0 c [] (b ∷ bytes)) m
+          ∙ load 0 c b bytes;
       kept = λ rest h. refl;
       inside = λ h. omega arith;
       few = λ n t bytes m l h. omega (arith, m);
@@ -252,7 +258,8 @@ steps (inByte zero v r false b false c) e =
       sent = top y;
       load = false;
       next = framer (Check 15 (shifted y)) i (shared b false true c);
-      ticks = tick-chooses good r x (Byte 0 v) refl ∙ next-byte-check good r x refl 0 v refl refl refl;
+      ticks =
+          tick-chooses good r x (Byte 0 v) refl ∙ next-byte-check good r x refl 0 v refl refl refl;
       going = inCheck 15 (shifted y) (i .run) (i .owed) b false c;
       may-be = λ n bytes m. m .0;
       head = λ n bytes m. unfold lowBits in (ap (come.closed r c []) (m .1) ∙ check-starts r c);

@@ -1,4 +1,5 @@
--- Every host, as a test that a reader can run on a story, and that it is that condition. Assumes nothing.
+-- Every host, as a test that a reader can run on a story, and that it is that condition. Assumes
+-- nothing.
 use mathlib.Core.Path.{_≡_, refl}
 use mathlib.Core.Bool.{Bool, true, not, _&&_}
 use mathlib.Core.List.{List, [], _∷_}
@@ -20,7 +21,8 @@ unfoldable pub hosting : Which → Chip → List Event → Bool
 hosting w c [] = true
 hosting w c (e ∷ st) = hosted w c e (role w e) && hosting w (happens c e .chip) st
 
-one-more : (w : Which) (c : Chip) (e : Event) (st : List Event) (r : Role) → View w e r → role w e ≡ r
+one-more : (w : Which) (c : Chip) (e : Event) (st : List Event) (r : Role) → View w e r
+    → role w e ≡ r
     → hosted w c e r ≡ true → Host w (happens c e .chip) st → Host w c (e ∷ st)
 one-more w c _ st Ticks its-tick q a h = ticking (not-true (closed w c) a) h
 one-more w c _ st (Writes b) its-write q a h = writes h

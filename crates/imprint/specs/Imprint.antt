@@ -1,5 +1,5 @@
--- A stamp's cells over a buffer, one bit to a cell, by a table of four bits that is lent, whatever it
--- holds. Assumes nothing.
+-- A stamp's cells over a buffer, one bit to a cell, by a table of four bits that is lent, whatever
+-- it holds. Assumes nothing.
 use mathlib.Core.List.{List}
 use Prim.Native.Nat.{ℕ, _+_, _-_, _/_, _%_}
 use lib.Dec.{ltb}

@@ -1,5 +1,5 @@
--- Laws of a stamp's cells: by the right table they are the twelve bits, and those behind the ones that
--- count are gone once as many cells are stored there. Assumes nothing.
+-- Laws of a stamp's cells: by the right table they are the twelve bits, and those behind the ones
+-- that count are gone once as many cells are stored there. Assumes nothing.
 use mathlib.Core.Path.{_≡_, refl, sym, ap, _∙_}
 use mathlib.Core.Bool.{Bool}
 use mathlib.Core.List.{List, [], _∷_, _++_}

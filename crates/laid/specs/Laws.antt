@@ -1,5 +1,5 @@
--- Laws of the layout by tables: by the right ones, where there is room for the frame, the frame is what
--- is laid out, and nothing behind it is touched. Assumes nothing.
+-- Laws of the layout by tables: by the right ones, where there is room for the frame, the frame is
+-- what is laid out, and nothing behind it is touched. Assumes nothing.
 use mathlib.Core.Path.{_≡_, sym, ap, _∙_}
 use mathlib.Core.Bool.{Bool}
 use mathlib.Core.List.{List, _++_}
@@ -42,7 +42,8 @@ module _ (buffer note : List ℕ) (fits : ticksOf note ≤ length buffer) where
   room : 8 + length inner + 8 ≤ length opening
   room = omega (arith, long, ticks-are note, length-sets buffer 0 (cells flagBits))
 
-  -- where the closing flag stands: the zeros inserted are what the content takes beyond its own bits
+  -- where the closing flag stands: the zeros inserted are what the content takes beyond its own
+  -- bits
   pub end-is : endStamped checkTable stampTable fourTable buffer note
       ≡ 8 + 8 * (length note + 2) + zerosOf note
   unfolding endStamped

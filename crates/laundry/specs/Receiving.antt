@@ -1,7 +1,7 @@
--- 02, P3, receiving: "Monosync .. matches WR7"; "WR3 D1 keeps leading sync characters out of the queue, and
--- Enter Hunt starts the search again, RR0 D4 showing it. A character enters the receive check when the next
--- one has been assembled, if WR3 D3 is set at that moment; RR1 D6 is then 1 exactly while that check is not
--- zero." Assumes nothing.
+-- 02, P3, receiving: "Monosync .. matches WR7"; "WR3 D1 keeps leading sync characters out of the
+-- queue, and Enter Hunt starts the search again, RR0 D4 showing it. A character enters the receive
+-- check when the next one has been assembled, if WR3 D3 is set at that moment; RR1 D6 is then 1
+-- exactly while that check is not zero." Assumes nothing.
 use mathlib.Core.Path.{_≡_, refl}
 use mathlib.Core.List.{List, [], _∷_, _++_, map}
 use Prim.Native.Nat.{ℕ}
@@ -40,11 +40,13 @@ whole =
     ++ (hears 0 16 0b0000110011111111 ++ takes 0 2)))
 
 pub record Told : Type 0 where
-  -- "D6 is then 1 exactly while that check is not zero": 0 when the pad is complete, with nothing waiting
+  -- "D6 is then 1 exactly while that check is not zero": 0 when the pad is complete, with nothing
+  -- waiting
   pub good : reads happens (listening checking ++ whole) 0 1 ≡ 0x01
   -- and 1 when the pad has entered in its turn, with nothing waiting
   pub spoilt :
-      reads happens (listening checking ++ (whole ++ (hears 0 8 0b11111111 ++ takes 0 1))) 0 1 ≡ 0x41
+      reads happens (listening checking ++ (whole ++ (hears 0 8 0b11111111 ++ takes 0 1))) 0 1
+      ≡ 0x41
   -- "when the next one has been assembled"
   pub waits : reads happens (listening checking ++ (sync ++ hears 0 8 0b10000000)) 0 1 ≡ 0x01
   -- "preset to zeros here", and the matched sync does not enter
@@ -53,12 +55,15 @@ pub record Told : Type 0 where
   pub leading :
       bytes happens (listening stripping ++ (sync ++ (sync ++ (hears 0 8 0b11111111 ++ sync)))) 0 2
       ≡ 0xFF ∷ 0x16 ∷ []
-  -- "Enter Hunt starts the search again, RR0 D4 showing it": half of a sync from before does not count
+  -- "Enter Hunt starts the search again, RR0 D4 showing it": half of a sync from before does not
+  -- count
   pub searching :
-      reads happens (listening on ++ (hears 0 4 0b0110 ++ (set 0 3 entersHunt ++ hears 0 4 0b1000))) 0 0
+      reads happens
+      (listening on ++ (hears 0 4 0b0110 ++ (set 0 3 entersHunt ++ hears 0 4 0b1000))) 0 0
       ≡ 0x54
   pub found :
-      reads happens (listening on ++ (set 0 3 entersHunt ++ (hears 0 4 0b0110 ++ hears 0 4 0b1000))) 0 0
+      reads happens
+      (listening on ++ (set 0 3 entersHunt ++ (hears 0 4 0b0110 ++ hears 0 4 0b1000))) 0 0
       ≡ 0x44
   -- from one of the two modes to the other the half character is dropped, and the search begins
   pub changed :

@@ -1,6 +1,6 @@
--- 02, P3, sending: "Monosync sends WR6"; "At an underrun the sender sends sync characters, before them the
--- check if the latch is clear and WR5 D0 set, and sets the latch. WR5 D2 = 1 chooses x^16+x^15+x^2+1,
--- .. preset to zeros here and not complemented." Assumes nothing.
+-- 02, P3, sending: "Monosync sends WR6"; "At an underrun the sender sends sync characters, before
+-- them the check if the latch is clear and WR5 D0 set, and sets the latch. WR5 D2 = 1 chooses
+-- x^16+x^15+x^2+1, .. preset to zeros here and not complemented." Assumes nothing.
 use mathlib.Core.Path.{_≡_, refl}
 use mathlib.Core.List.{List, [], _∷_, _++_, map}
 use Prim.Native.Nat.{ℕ}
@@ -26,7 +26,8 @@ one = ticks 0 8 ++ writes 0 0x41
 pub record Told : Type 0 where
   -- "Monosync sends WR6"
   pub sync : line happens cleared 0 8 ≡ digits 8 0b01101000
-  -- "before them the check": CRC-16 of 41 from zeros is 30C0, and goes out as C0 30; a sync behind it
+  -- "before them the check": CRC-16 of 41 from zeros is 30C0, and goes out as C0 30; a sync behind
+  -- it
   pub checked :
       line happens (cleared ++ one) 0 32
       ≡ digits 8 0b10000010 ++ (digits 16 0b0000001100001100 ++ digits 8 0b01101000)

@@ -1,4 +1,5 @@
--- What a unit of Monosync and Bisync is, told by tests, for the making of wrong chips. Assumes nothing.
+-- What a unit of Monosync and Bisync is, told by tests, for the making of wrong chips. Assumes
+-- nothing.
 use mathlib.Core.Bool.{Bool, true, false}
 use lib.Dec.{eqb}
 use Rattle.bytesync.specs.declared.BlockUnit.{BlockUnit}

@@ -1,4 +1,5 @@
--- Laws of the layout: where there is room for the frame, the frame is what is laid out. Assumes nothing.
+-- Laws of the layout: where there is room for the frame, the frame is what is laid out. Assumes
+-- nothing.
 use mathlib.Core.Path.{_≡_, refl, sym, ap, ap₂, _∙_}
 use mathlib.Core.Bool.{Bool}
 use mathlib.Core.List.{List, [], _∷_, _++_}
@@ -18,8 +19,8 @@ use Rattle.pen.specs.Laws.{cells-sets, put-none, put-join, put-size, put-at}
 use Rattle.pen.specs.Laws.{put-width, byte-fits, flag-fits}
 use Rattle.layout.specs.Layout.{bytesPut, contentPut, framePut}
 
--- Bytes are put down where there is room for them and a flag behind them: each has then room for itself
--- and eight cells more, and takes eight at least.
+-- Bytes are put down where there is room for them and a flag behind them: each has then room for
+-- itself and eight cells more, and takes eight at least.
 pub bytes-fit : (s : Sheet) (vs : List ℕ)
     → s .pen .at + length (stuff (s .pen .run) (textBits 8 vs)) + 8 ≤ length (s .buffer)
     → bytesPut s vs ≡ bitsPut s (textBits 8 vs)
@@ -56,7 +57,8 @@ module _ (buffer note : List ℕ) (fits : ticksOf note ≤ length buffer) where
       (bytes-fit s (withCheck note) (omega (arith, ticks-are note, content-length note))
       ∙ ap (bitsPut s) (sym (content-is note)))
 
-  -- where the closing flag stands: the zeros inserted are what the content takes beyond its own bits
+  -- where the closing flag stands: the zeros inserted are what the content takes beyond its own
+  -- bits
   pub end-is : contentPut buffer note .pen .at ≡ 8 + 8 * (length note + 2) + zerosOf note
   end-is =
       let s = sheet opening (penAt 8 0) in

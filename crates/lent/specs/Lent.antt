@@ -1,5 +1,5 @@
--- What the writer by whole bytes answers, and what it leaves in the caller's buffer, by tables that are
--- lent, whatever they hold. Assumes nothing.
+-- What the writer by whole bytes answers, and what it leaves in the caller's buffer, by tables that
+-- are lent, whatever they hold. Assumes nothing.
 use mathlib.Core.List.{List, _++_}
 use Prim.Native.Nat.{ℕ, _+_, _-_, _*_}
 use lib.Dec.{ltb}
@@ -27,7 +27,8 @@ module _ (checks stamps fours : List ℕ) where
       else Refused NoteLength
 
   abbrev pub leftBy : Counted → List ℕ → List ℕ → ℕ → List ℕ
-  leftBy (Zeros z) note buffer at = take at buffer ++ frameStamped checks stamps fours (drop at buffer) note
+  leftBy (Zeros z) note buffer at =
+      take at buffer ++ frameStamped checks stamps fours (drop at buffer) note
   leftBy (Refused k) note buffer at = buffer
 
   abbrev pub bufferBy : List ℕ → List ℕ → ℕ → List ℕ

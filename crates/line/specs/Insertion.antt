@@ -1,6 +1,7 @@
 -- 01, Sending: "After five ones in a row in byte and check bits, counted on from the opening flag,
--- one 0 is owed and sent next, even before the flag." The run is the number of ones just sent, and is
--- below five before each bit; a greater one, which no history makes, counts as four. Assumes nothing.
+-- one 0 is owed and sent next, even before the flag." The run is the number of ones just sent, and
+-- is below five before each bit; a greater one, which no history makes, counts as four. Assumes
+-- nothing.
 use mathlib.Core.Bool.{Bool, true, false, not, _&&_}
 use mathlib.Core.List.{List, [], _∷_, _++_}
 use Prim.Native.Nat.{ℕ, _+_}

@@ -1,5 +1,5 @@
--- 01, Note list and line: how a station drives channel A of a chip to send a list, and the line that
--- it puts out. 02, P7: how notes follow each other is a choice. Assumes nothing.
+-- 01, Note list and line: how a station drives channel A of a chip to send a list, and the line
+-- that it puts out. 02, P7: how notes follow each other is a choice. Assumes nothing.
 use mathlib.Core.Bool.{Bool}
 use mathlib.Core.List.{List, [], _∷_, _++_, foldl}
 use Prim.Native.Nat.{ℕ}

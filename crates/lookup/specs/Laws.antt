@@ -1,5 +1,5 @@
--- Laws of the look into the check's table: it is the byte's eight steps, and a note with its check by
--- the table is the note with its check. Assumes nothing.
+-- Laws of the look into the check's table: it is the byte's eight steps, and a note with its check
+-- by the table is the note with its check. Assumes nothing.
 use mathlib.Core.Path.{_≡_, refl, sym, ap, _∙_}
 use mathlib.Core.Bool.{Bool}
 use mathlib.Core.List.{List, [], _∷_, _++_}
@@ -14,7 +14,8 @@ use Rattle.line.specs.Check.{sdlc, ones, checkOver}
 use Rattle.line.specs.Frame.{checkBytes, withCheck}
 use Rattle.line.specs.Laws.Check.{check-join}
 use Rattle.mirror.specs.Mirror.{mirror, mirroredByte}
-use Rattle.mirror.specs.Laws.{mirror-ones, mirror-bytes, mirroredByte-is, mirroredByte-lt, mirror-mirroredByte}
+use Rattle.mirror.specs.Laws.{mirror-ones, mirror-bytes, mirroredByte-is, mirroredByte-lt}
+use Rattle.mirror.specs.Laws.{mirror-mirroredByte}
 use Rattle.table.specs.Table.{checkEntry, checkTable}
 use Rattle.table.specs.Laws.{checkTable-at, lowBits-mod}
 use Rattle.lookup.specs.Lookup.{lookedUp, lookedOver, sentCheck, withLookup}

@@ -5,8 +5,8 @@ use lib.Bits.{bitXor}
 use lib.ListN.{getD}
 use Rattle.line.specs.Check.{ones}
 
--- the register after a byte: it meets the low half, the high half moves down, and the table says what
--- comes back of the low one
+-- the register after a byte: it meets the low half, the high half moves down, and the table says
+-- what comes back of the low one
 unfoldable pub lookedUp : List ℕ → ℕ → ℕ → ℕ
 lookedUp checks m v =
     bitXor (bitXor m (v % 256) / 256) (getD checks (bitXor m (v % 256) % 256) 0)

@@ -1,2 +1,3 @@
+pub mod Scanned
 pub mod NoteList
 pub mod Laws

@@ -3,6 +3,7 @@ use common::Refusal;
 use head::Head;
 use head::LENGTH_BYTES;
 use head::head_at;
+ghost use Rattle.notes.specs.Scanned.{scannedNumber, scannedNotes};
 ghost use mathlib.Core.Path.{_≡_};
 ghost use Rattle.notes.specs.NoteList.{readList, scanned};
 
@@ -17,6 +18,28 @@ pub const LONGEST_LIST: usize = 65535;
 pub enum Scanned {
     Notes(usize),
     Refused(Refusal),
+}
+
+impl Scanned {
+    // The paper's number of the refusal, 0 for none.
+    pub fn number(self) -> u8
+        ensures { λ r. ⌜ r ≡ scannedNumber self ⌝ }
+    {
+        match self {
+            Scanned::Notes(n) => 0,
+            Scanned::Refused(k) => k.number(),
+        }
+    }
+
+    // How many notes, 0 for a refusal.
+    pub fn notes(self) -> usize
+        ensures { λ r. ⌜ r ≡ scannedNotes self ⌝ }
+    {
+        match self {
+            Scanned::Notes(n) => n,
+            Scanned::Refused(k) => 0,
+        }
+    }
 }
 
 // The whole list, note by note; the first bad note decides.

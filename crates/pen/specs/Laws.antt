@@ -49,7 +49,8 @@ put-join s xs ys =
     let n : at + length (stuff run (xs ++ ys)) ≡ at + length left + length right =
     ap (λ (l : List Bool). at + length l) both ∙ omega (arith, length-append left right) in
     ap₂ sheet
-    (ap (λ (l : List Bool). sets (s .buffer) at (cells l)) both ∙ cells-sets (s .buffer) at left right)
+    (ap (λ (l : List Bool). sets (s .buffer) at (cells l)) both
+    ∙ cells-sets (s .buffer) at left right)
     (ap₂ penAt n (runOver-join run xs ys))
 
 pub put-size : (s : Sheet) (bits : List Bool) → length (bitsPut s bits .buffer) ≡ length (s .buffer)
@@ -98,8 +99,9 @@ pub byte-short : (run v : ℕ) → length (stuff run (lowBits 8 v)) ≤ byteCell
 byte-short run v =
     omega (arith, stuff-length run (lowBits 8 v), lowBits-length 8 v, zeros-most run (lowBits 8 v))
 
--- A loop that puts bits down has the invariant that what is left, from where the pen is, makes what all
--- of it made from where it was: then the buffer is as long, and there is room for the next bits.
+-- A loop that puts bits down has the invariant that what is left, from where the pen is, makes what
+-- all of it made from where it was: then the buffer is as long, and there is room for the next
+-- bits.
 
 pub same-size : (s t : Sheet) (xs ys : List Bool) → bitsPut t ys ≡ bitsPut s xs
     → length (t .buffer) ≡ length (s .buffer)

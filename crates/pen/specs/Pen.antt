@@ -28,8 +28,8 @@ bitsPut s bits =
     sheet (sets (s .buffer) (s .pen .at) (cells (stuff (s .pen .run) bits)))
     (penAt (s .pen .at + length (stuff (s .pen .run) bits)) (runOver (s .pen .run) bits))
 
--- A byte takes at most ten cells, its eight bits and two zeros: it is put down where so many are left
--- from the pen on, and else nothing is.
+-- A byte takes at most ten cells, its eight bits and two zeros: it is put down where so many are
+-- left from the pen on, and else nothing is.
 abbrev pub byteCells : ℕ
 byteCells = 10
 

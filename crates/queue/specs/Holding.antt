@@ -1,4 +1,5 @@
--- What statements say of a queue: that a history made it, and which entries it holds. Assumes nothing.
+-- What statements say of a queue: that a history made it, and which entries it holds. Assumes
+-- nothing.
 use mathlib.Core.Path.{_≡_}
 use mathlib.Core.Bool.{Bool, true, false}
 use mathlib.Core.List.{List, [], _∷_}

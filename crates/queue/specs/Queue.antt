@@ -25,8 +25,8 @@ queue es n p o = record { entries = es; count = n; parity = p; overrun = o }
 abbrev pub empty : Queue
 empty = queue (noEntry ∷ noEntry ∷ noEntry ∷ []) 0 false false
 
--- "D4 and D5 are latched when an entry so marked becomes the oldest, until Error Reset": e becomes the
--- oldest
+-- "D4 and D5 are latched when an entry so marked becomes the oldest, until Error Reset": e becomes
+-- the oldest
 abbrev pub latching : Queue → List Entry → ℕ → Entry → Queue
 latching q es n e = queue es n (e .parity || q .parity) (e .overrun || q .overrun)
 
@@ -68,7 +68,8 @@ errorReset q = queue (q .entries) (q .count) false false
 unfoldable pub rr1 : Queue → Bool → ℕ
 rr1 q sent = rr1Of (oldest q) sent (q .parity) (q .overrun)
 
--- 02, P3: "RR1 D6 is then 1 exactly while that check is not zero": D6 is told, whatever the oldest entry
+-- 02, P3: "RR1 D6 is then 1 exactly while that check is not zero": D6 is told, whatever the oldest
+-- entry
 unfoldable pub rr1Told : Queue → Bool → Bool → ℕ
 rr1Told q sent error = rr1With (oldest q) sent (q .parity) (q .overrun) error
 

@@ -1,5 +1,6 @@
--- 01, Receiving: one channel's receiver: what all modes share, which mode hears, off, and what the other
--- events do to it. Every receiver is accepted, also one that no history made. Assumes nothing.
+-- 01, Receiving: one channel's receiver: what all modes share, which mode hears, off, and what the
+-- other events do to it. Every receiver is accepted, also one that no history made. Assumes
+-- nothing.
 use mathlib.Core.Bool.{Bool, true, false, _&&_, _||_}
 use Prim.Native.Nat.{ℕ}
 use Rattle.common.specs.Choice.{if_then_else_}
@@ -63,9 +64,9 @@ byMatched s h =
 abbrev pub reset : Receiver
 reset = receiver (contentAt false false 0) (noAssembly false) (searching false) ones false
 
--- "drops the unfinished part, a wait for a 1 and the count of ones and, in SDLC, starts hunt"; 02, P3:
--- "Enter Hunt starts the search again". Hunt is h and D7 x from now on. The check, which only a flag, its
--- command and a reset preset, stays
+-- "drops the unfinished part, a wait for a 1 and the count of ones and, in SDLC, starts hunt"; 02,
+-- P3: "Enter Hunt starts the search again". Hunt is h and D7 x from now on. The check, which only a
+-- flag, its command and a reset preset, stays
 abbrev pub dropped : Receiver → Bool → Bool → Receiver
 dropped s h x =
     receiver (contentAt h false 0) (noAssembly false) (searching h) (s .check) x
@@ -74,8 +75,8 @@ dropped s h x =
 abbrev pub enterHunt : Receiver → Receiver
 enterHunt s = dropped s true (s .broken)
 
--- 01, Registers: "An accepted WR4 that changes the mode .. clears D7, drops the half-received character
--- and frame, and starts hunt in SDLC", as in Monosync and Bisync
+-- 01, Registers: "An accepted WR4 that changes the mode .. clears D7, drops the half-received
+-- character and frame, and starts hunt in SDLC", as in Monosync and Bisync
 abbrev pub modeChanged : Receiver → Bool → Receiver
 modeChanged s hunts = dropped s hunts false
 
@@ -89,8 +90,8 @@ abbrev pub hunting : Receiving → Receiver → Bool
 hunting g s =
     (inSdlc (g .mode) && s .content .hunt) || (inBlocks (g .mode) && s .reception .hunt)
 
--- A receive tick. "With no mode, ticks .. receive nothing"; "A tick while off clears D7, and it .. drops
--- the unfinished part"
+-- A receive tick. "With no mode, ticks .. receive nothing"; "A tick while off clears D7, and it ..
+-- drops the unfinished part"
 
 abbrev pub hearInBlocks : Receiving → Receiver → Bool → Heard
 hearInBlocks g s b =

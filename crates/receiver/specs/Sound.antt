@@ -1,5 +1,5 @@
--- What only a receiver with a history has: its modes' parts are such as a history leaves them. Assumes
--- nothing.
+-- What only a receiver with a history has: its modes' parts are such as a history leaves them.
+-- Assumes nothing.
 use Rattle.asynchronous.specs.Sound.{SoundAssembly}
 use Rattle.bytesync.specs.Sound.{SoundReception}
 use Rattle.sdlc.specs.Sound.{SoundContent}

@@ -1,4 +1,5 @@
--- Conservation, for any bits on the line: what was read, then what waits, is what waited before, then what was handed over. Assumes nothing.
+-- Conservation, for any bits on the line: what was read, then what waits, is what waited before,
+-- then what was handed over. Assumes nothing.
 use mathlib.Core.Path.{_≡_, refl, sym, ap, ap₂, _∙_, subst}
 use mathlib.Core.Bool.{Bool, true, false, not, _&&_, _||_}
 use mathlib.Core.List.{List, _++_, append-assoc, append-nil}
@@ -24,26 +25,33 @@ use Rattle.receiving.specs.Statement.{roomFor, Fed, over, hears, reads, 
 use Rattle.history.specs.Receiving.Events.{queuedBy, heardSide, readSide, Follows, Hearing, follows}
 
 -- the queue takes what a tick hands over
-queue-takes : {p o : Bool} {q : Queue} {es : List Entry} (h : Listened) → Holds p o q es → roomFor q h ≡ true → Plain (h .entry) → Holds p o (queuedBy q h) (es ++ handed h)
+queue-takes : {p o : Bool} {q : Queue} {es : List Entry} (h : Listened) → Holds p o q es
+    → roomFor q h ≡ true → Plain (h .entry) → Holds p o (queuedBy q h) (es ++ handed h)
 queue-takes {p} {o} {q} {es} h k r e = go (h .some) r
   where
-    go : (t : Bool) → not t || ltb (q .count) room ≡ true → Holds p o (if t then pushed q (h .entry) else q) (es ++ entryIf t (h .entry))
+    go : (t : Bool) → not t || ltb (q .count) room ≡ true
+        → Holds p o (if t then pushed q (h .entry) else q) (es ++ entryIf t (h .entry))
     go true r = push-holds k r e
     go false r = rw (append-nil es) k
 
 -- at the end of a story: the side, and, whatever bits follow, the whole of what is handed over
-pub record Conserved (w : Which) (c : Chip) (st : List Event) (s : Listener) (g : Heeded) (es : List Entry) (p o : Bool) : Type 0 where
+pub record Conserved (w : Which) (c : Chip) (st : List Event) (s : Listener) (g : Heeded)
+    (es : List Entry) (p o : Bool) : Type 0 where
   pub last : Listener
   pub queue : Queue
   pub waiting : List Entry
   pub there : sideOf w (after c st) ≡ side last queue g
   pub holds : Holds p o queue waiting
-  pub whole : (rest : List Bool) → before es (hearAll (g .addressing) s (bitsOf w st ++ rest)) ≡ before (tookOf w c st ++ waiting) (hearAll (g .addressing) last rest)
+  pub whole : (rest : List Bool)
+      → before es (hearAll (g .addressing) s (bitsOf w st ++ rest))
+      ≡ before (tookOf w c st ++ waiting) (hearAll (g .addressing) last rest)
 
-pub conserved : (w : Which) {c : Chip} {st : List Event} {p o : Bool} → Fed w c st → (s : Listener) (q : Queue) (g : Heeded) (es : List Entry)
+pub conserved : (w : Which) {c : Chip} {st : List Event} {p o : Bool} → Fed w c st
+    → (s : Listener) (q : Queue) (g : Heeded) (es : List Entry)
     → Hearing g → sideOf w c ≡ side s q g → Holds p o q es → Conserved w c st s g es p o
 unfolding after bitsOf tookOf hearAll
-conserved w over s q g es d e h = record { last = s; queue = q; waiting = es; there = e; holds = h; whole = λ rest. refl }
+conserved w over s q g es d e h =
+    record { last = s; queue = q; waiting = es; there = e; holds = h; whole = λ rest. refl }
 conserved w (still {c = c} {e = x} {st = st} r k i) s q g es d e h =
     let m = conserved w i s q g es d (k ∙ e) h in
     record {
@@ -53,13 +61,18 @@ conserved w (still {c = c} {e = x} {st = st} r k i) s q g es d e h =
       there = m .there;
       holds = m .holds;
       whole = λ rest.
-          ap (λ (r : Role). before es (hearAll (g .addressing) s ((bitIn r ++ bitsOf w st) ++ rest))) r
+          ap (λ (r : Role). before es
+          (hearAll (g .addressing) s ((bitIn r ++ bitsOf w st) ++ rest))) r
           ∙ m .whole rest
-          ∙ ap (λ (r : Role). before ((entryIf (taking w c r) (oldest (chan w c .queue)) ++ tookOf w (happens c x .chip) st) ++ m .waiting) (hearAll (g .addressing) (m .last) rest)) (sym r);
+          ∙ ap (λ (r : Role). before
+          ((entryIf (taking w c r) (oldest (chan w c .queue)) ++ tookOf w (happens c x .chip) st)
+          ++ m .waiting) (hearAll (g .addressing) (m .last) rest)) (sym r);
     }
 conserved w (reads {c = c} {e = x} {st = st} r i) s q g es d e h =
     let t = read-holds h in
-    let f : sideOf w (happens c x .chip) ≡ readSide (sideOf w c) = subst (Follows w c (happens c x .chip)) r (follows w c x (subst Hearing (sym (ap (λ (y : Side). y .settings) e)) d)) in
+    let f : sideOf w (happens c x .chip) ≡ readSide (sideOf w c) =
+    subst (Follows w c (happens c x .chip)) r
+    (follows w c x (subst Hearing (sym (ap (λ (y : Side). y .settings) e)) d)) in
     let m = conserved w i s (taken q) g (t .rest) d (f ∙ ap readSide e) (t .holds) in
     let n = entryIf (waits q) (oldest q) in
     let more = tookOf w (happens c x .chip) st in
@@ -70,20 +83,31 @@ conserved w (reads {c = c} {e = x} {st = st} r i) s q g es d e h =
       there = m .there;
       holds = m .holds;
       whole = λ rest.
-          ap (λ (r : Role). before es (hearAll (g .addressing) s ((bitIn r ++ bitsOf w st) ++ rest))) r
-          ∙ ap (λ (l : List Entry). before l (hearAll (g .addressing) s (bitsOf w st ++ rest))) (t .split)
+          ap (λ (r : Role). before es
+          (hearAll (g .addressing) s ((bitIn r ++ bitsOf w st) ++ rest))) r
+          ∙ ap (λ (l : List Entry). before l (hearAll (g .addressing) s (bitsOf w st ++ rest)))
+          (t .split)
           ∙ sym (before-join n (t .rest) (hearAll (g .addressing) s (bitsOf w st ++ rest)))
           ∙ ap (before n) (m .whole rest)
           ∙ before-join n (more ++ m .waiting) (hearAll (g .addressing) (m .last) rest)
-          ∙ ap (λ (l : List Entry). before l (hearAll (g .addressing) (m .last) rest)) (sym (append-assoc n more (m .waiting)))
-          ∙ ap₂ (λ (r : Role) (y : Side). before ((entryIf (isRead r && waits (y .queue)) (oldest (y .queue)) ++ more) ++ m .waiting) (hearAll (g .addressing) (m .last) rest))
+          ∙ ap (λ (l : List Entry). before l (hearAll (g .addressing) (m .last) rest))
+          (sym (append-assoc n more (m .waiting)))
+          ∙ ap₂ (λ (r : Role) (y : Side). before
+          ((entryIf (isRead r && waits (y .queue)) (oldest (y .queue)) ++ more) ++ m .waiting)
+          (hearAll (g .addressing) (m .last) rest))
           (sym r) (sym e);
     }
 conserved w (hears {c = c} {e = x} {st = st} {b = b} r k i) s q g es d e h =
     let H = hearSdlc (g .addressing) s b in
-    let f : sideOf w (happens c x .chip) ≡ heardSide b (sideOf w c) = subst (Follows w c (happens c x .chip)) r (follows w c x (subst Hearing (sym (ap (λ (y : Side). y .settings) e)) d)) in
-    let space : roomFor q H ≡ true = ap (λ (y : Side). roomFor (y .queue) (hearSdlc (y .settings .addressing) (y .listener) b)) (sym e) ∙ k in
-    let m = conserved w i (H .listener) (queuedBy q H) g (es ++ handed H) d (f ∙ ap (heardSide b) e) (queue-takes H h space (hear-plain (g .addressing) s b)) in
+    let f : sideOf w (happens c x .chip) ≡ heardSide b (sideOf w c) =
+    subst (Follows w c (happens c x .chip)) r
+    (follows w c x (subst Hearing (sym (ap (λ (y : Side). y .settings) e)) d)) in
+    let space : roomFor q H ≡ true =
+    ap (λ (y : Side). roomFor (y .queue) (hearSdlc (y .settings .addressing) (y .listener) b))
+    (sym e) ∙ k in
+    let m =
+    conserved w i (H .listener) (queuedBy q H) g (es ++ handed H) d (f ∙ ap (heardSide b) e)
+    (queue-takes H h space (hear-plain (g .addressing) s b)) in
     record {
       last = m .last;
       queue = m .queue;
@@ -91,8 +115,11 @@ conserved w (hears {c = c} {e = x} {st = st} {b = b} r k i) s q g es d e h =
       there = m .there;
       holds = m .holds;
       whole = λ rest.
-          ap (λ (r : Role). before es (hearAll (g .addressing) s ((bitIn r ++ bitsOf w st) ++ rest))) r
+          ap (λ (r : Role). before es
+          (hearAll (g .addressing) s ((bitIn r ++ bitsOf w st) ++ rest))) r
           ∙ before-join es (handed H) (hearAll (g .addressing) (H .listener) (bitsOf w st ++ rest))
           ∙ m .whole rest
-          ∙ ap (λ (r : Role). before ((entryIf (taking w c r) (oldest (chan w c .queue)) ++ tookOf w (happens c x .chip) st) ++ m .waiting) (hearAll (g .addressing) (m .last) rest)) (sym r);
+          ∙ ap (λ (r : Role). before
+          ((entryIf (taking w c r) (oldest (chan w c .queue)) ++ tookOf w (happens c x .chip) st)
+          ++ m .waiting) (hearAll (g .addressing) (m .last) rest)) (sym r);
     }

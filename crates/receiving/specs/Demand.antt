@@ -1,4 +1,5 @@
--- Demand 2, proved: at the end of a story, at every moment of it, for several notes, and RR1 as it is read. Assumes nothing.
+-- Demand 2, proved: at the end of a story, at every moment of it, for several notes, and RR1 as it
+-- is read. Assumes nothing.
 use mathlib.Core.Path.{_≡_, refl, sym, ap, _∙_, subst}
 use mathlib.Core.Bool.{Bool, true, false, not, _&&_, _||_}
 use mathlib.Core.List.{List, [], _∷_, _++_, append-assoc, append-nil}
@@ -53,10 +54,12 @@ addressOf x = x .settings .addressing .address
 addressing-is : (x : Side) → Listening x → unaddressed (addressOf x) ≡ x .settings .addressing
 addressing-is x l = λ i. record { search = sym (l .search) i; address = addressOf x }
 
--- A story in which the receiver, as it is set, would hear these entries out of the story's bits and the rest
+-- A story in which the receiver, as it is set, would hear these entries out of the story's bits and
+-- the rest
 module _ (w : Which) (c : Chip) (st : List Event) (rest : List Bool) (es : List Entry)
     (l : Listening (sideOf w c)) (f : Fed w c st)
-    (e : hearAll (unaddressed (addressOf (sideOf w c))) (sideOf w c .listener) (bitsOf w st ++ rest) ≡ final pastFlag es) where
+    (e : hearAll (unaddressed (addressOf (sideOf w c))) (sideOf w c .listener) (bitsOf w st ++ rest)
+    ≡ final pastFlag es) where
   abbrev x : Side
   x = sideOf w c
 
@@ -88,9 +91,11 @@ module _ (w : Which) (c : Chip) (st : List Event) (rest : List Bool) (es : List 
     stays = ap (λ (y : Side). y .settings) (kept .there);
   }
 
-pub received-all : (w : Which) (c : Chip) (st : List Event) (es : List Entry) → Listening (sideOf w c)
+pub received-all : (w : Which) (c : Chip) (st : List Event) (es : List Entry)
+    → Listening (sideOf w c)
     → Fed w c st
-    → hearAll (unaddressed (addressOf (sideOf w c))) (sideOf w c .listener) (bitsOf w st) ≡ final pastFlag es
+    → hearAll (unaddressed (addressOf (sideOf w c))) (sideOf w c .listener) (bitsOf w st)
+    ≡ final pastFlag es
     → Received w c st (bytesOf es) es
 unfolding hearAll
 received-all w c st es l f h =
@@ -134,13 +139,15 @@ demand2 w c st note l n b f e =
     (ap (hearAll (unaddressed a) s) e ∙ frame-heard a s note n (l .start) b)
 
 -- once all is read the channel listens as it did: the next frame may follow
-holds-three : {p o : Bool} {q : Queue} {es : List Entry} → Holds p o q es → length (q .entries) ≡ room
+holds-three : {p o : Bool} {q : Queue} {es : List Entry} → Holds p o q es
+    → length (q .entries) ≡ room
 holds-three h0 = refl
 holds-three (h1 a) = refl
 holds-three (h2 a b) = refl
 holds-three (h3 a b c) = refl
 
-pub listens-again : (w : Which) (c : Chip) (st : List Event) (bytes : List ℕ) (es : List Entry) → Listening (sideOf w c) → Received w c st bytes es
+pub listens-again : (w : Which) (c : Chip) (st : List Event) (bytes : List ℕ) (es : List Entry)
+    → Listening (sideOf w c) → Received w c st bytes es
     → chan w (after c st) .queue .count ≡ 0 → Listening (sideOf w (after c st))
 listens-again w c st bytes es l r n = record {
   mode = ap (λ (g : Heeded). g .mode) (r .stays) ∙ l .mode;
@@ -148,7 +155,9 @@ listens-again w c st bytes es l r n = record {
   search = ap (λ (g : Heeded). g .addressing .search) (r .stays) ∙ l .search;
   empty = n;
   three = holds-three (r .holds);
-  start = past-flag (ap (λ (s : Listener). s .content) (r .ready)) (ap (λ (s : Listener). s .check) (r .ready));
+  start =
+      past-flag (ap (λ (s : Listener). s .content) (r .ready))
+      (ap (λ (s : Listener). s .check) (r .ready));
 }
 
 -- several notes
@@ -156,7 +165,8 @@ pub notes2 : Notes2
 notes2 w c st ns l n f e =
     let a = addressOf (sideOf w c) in
     let s = sideOf w c .listener in
-    received-all w c st (allEnded ns) l f (ap (hearAll (unaddressed a) s) e ∙ notes-heard a s (l .start) n)
+    received-all w c st (allEnded ns) l f
+    (ap (hearAll (unaddressed a) s) e ∙ notes-heard a s (l .start) n)
 
 -- Every moment
 
@@ -169,17 +179,21 @@ fed-front w (x ∷ xs) ys (still r k f) = still r k (fed-front w xs ys f)
 bits-join : (w : Which) (xs ys : List Event) → bitsOf w (xs ++ ys) ≡ bitsOf w xs ++ bitsOf w ys
 unfolding bitsOf
 bits-join w [] ys = refl
-bits-join w (x ∷ xs) ys = ap (λ (l : List Bool). bitIn (role w x) ++ l) (bits-join w xs ys) ∙ sym (append-assoc (bitIn (role w x)) (bitsOf w xs) (bitsOf w ys))
+bits-join w (x ∷ xs) ys =
+    ap (λ (l : List Bool). bitIn (role w x) ++ l) (bits-join w xs ys)
+    ∙ sym (append-assoc (bitIn (role w x)) (bitsOf w xs) (bitsOf w ys))
 
 pub always2 : Always2
 always2 w c xs ys note l n b f e =
     let a = addressOf (sideOf w c) in
     let s = sideOf w c .listener in
     moment w c xs (bitsOf w ys) (ended false (withCheck note)) l (fed-front w xs ys f)
-    (ap (hearAll (unaddressed a) s) (sym (bits-join w xs ys) ∙ e) ∙ frame-heard a s note n (l .start) b)
+    (ap (hearAll (unaddressed a) s) (sym (bits-join w xs ys) ∙ e)
+    ∙ frame-heard a s note n (l .start) b)
 
 -- the overrun latch is as it was: no overrun was marked
-pub overrun-kept : (w : Which) (c : Chip) (st : List Event) (es : List Entry) → Moment w c st es → chan w (after c st) .queue .overrun ≡ chan w c .queue .overrun
+pub overrun-kept : (w : Which) (c : Chip) (st : List Event) (es : List Entry) → Moment w c st es
+    → chan w (after c st) .queue .overrun ≡ chan w c .queue .overrun
 overrun-kept w c st es m = latches-holds (m .holds) .1
 
 -- RR1
@@ -192,7 +206,8 @@ isNil (e ∷ es) = false
 own : (x : Entry) (v : ℕ) (e b : Bool) → x ≡ plainEntry v e b → x ≡ plainEntry (x .byte) e b
 own x v e b p = p ∙ ap (λ (n : ℕ). plainEntry n e b) (sym (ap (λ (y : Entry). y .byte) p))
 
-mark-at : (took : List Entry) (x : Entry) (more : List Entry) (vs : List ℕ) → took ++ (x ∷ more) ≡ ended false vs → x ≡ plainEntry (x .byte) (isNil more) false
+mark-at : (took : List Entry) (x : Entry) (more : List Entry) (vs : List ℕ)
+    → took ++ (x ∷ more) ≡ ended false vs → x ≡ plainEntry (x .byte) (isNil more) false
 unfolding ended
 mark-at [] x more [] e = absurd (omega (arith, ap length e))
 mark-at [] x [] (v ∷ []) e = own x v true false (cc)
@@ -201,7 +216,8 @@ mark-at [] x [] (v ∷ u ∷ []) e = absurd (omega (arith, ap length e))
 mark-at [] x [] (v ∷ u ∷ z ∷ vs) e = absurd (omega (arith, ap length e))
 mark-at [] x (y ∷ more) (v ∷ u ∷ vs) e = own x v false false (cc)
 mark-at (t ∷ took) x more [] e = absurd (omega (arith, ap length e))
-mark-at (t ∷ took) x more (v ∷ []) e = absurd (omega (arith, ap length e, length-append took (x ∷ more)))
+mark-at (t ∷ took) x more (v ∷ []) e =
+    absurd (omega (arith, ap length e, length-append took (x ∷ more)))
 mark-at (t ∷ took) x more (v ∷ u ∷ vs) e = mark-at took x more (u ∷ vs) (cc)
 
 ended-length : (bad : Bool) (vs : List ℕ) → length (ended bad vs) ≡ length vs
@@ -218,32 +234,61 @@ bytes-length (e ∷ es) = ap suc (bytes-length es)
 abbrev shownAt : ℕ → ℕ → ℕ
 shownAt taken all = if eqb (taken + 1) all then goodEnd else noEnd
 
-rr1-shows : (w : Which) (c : Chip) (st : List Event) (vs : List ℕ) → chan w c .queue .parity ≡ false → chan w c .queue .overrun ≡ false → Moment w c st (ended false vs)
-    → waits (chan w (after c st) .queue) ≡ true → rr1 (chan w (after c st) .queue) true ≡ shownAt (length (valuesOf w c st)) (length vs)
+rr1-shows : (w : Which) (c : Chip) (st : List Event) (vs : List ℕ) → chan w c .queue .parity ≡ false
+    → chan w c .queue .overrun ≡ false → Moment w c st (ended false vs)
+    → waits (chan w (after c st) .queue) ≡ true
+    → rr1 (chan w (after c st) .queue) true ≡ shownAt (length (valuesOf w c st)) (length vs)
 rr1-shows w c st vs p o m t = go (m .waiting) (m .holds) (m .marks)
   where
-    shown : (x : Entry) (more : List Entry) → x ≡ plainEntry (x .byte) (isNil more) false → length (tookOf w c st) + suc (length more) ≡ length vs
-        → rr1Of x true (chan w c .queue .parity) (chan w c .queue .overrun) ≡ shownAt (length (valuesOf w c st)) (length vs)
-    shown x [] e n = rw (e, p, o, eq-eqb (length (valuesOf w c st) + 1) (length vs) (omega (arith, bytes-length (tookOf w c st), ap length (values-are w c st))))
-    shown x (y ∷ more) e n = rw (e, p, o, ne-eqb (length (valuesOf w c st) + 1) (length vs) (λ k. omega (arith, bytes-length (tookOf w c st), ap length (values-are w c st))))
+    shown : (x : Entry) (more : List Entry) → x ≡ plainEntry (x .byte) (isNil more) false
+        → length (tookOf w c st) + suc (length more) ≡ length vs
+        → rr1Of x true (chan w c .queue .parity) (chan w c .queue .overrun)
+        ≡ shownAt (length (valuesOf w c st)) (length vs)
+    shown x [] e n =
+        rw (
+          e,
+          p,
+          o,
+          eq-eqb (length (valuesOf w c st) + 1) (length vs)
+              (omega (arith, bytes-length (tookOf w c st), ap length (values-are w c st))),
+        )
+    shown x (y ∷ more) e n =
+        rw (
+          e,
+          p,
+          o,
+          ne-eqb (length (valuesOf w c st) + 1) (length vs)
+              (λ k. omega (arith, bytes-length (tookOf w c st), ap length (values-are w c st))),
+        )
 
-    go : (ws : List Entry) → Holds (chan w c .queue .parity) (chan w c .queue .overrun) (chan w (after c st) .queue) ws → tookOf w c st ++ (ws ++ m .later) ≡ ended false vs
+    go : (ws : List Entry)
+        → Holds (chan w c .queue .parity) (chan w c .queue .overrun) (chan w (after c st) .queue) ws
+        → tookOf w c st ++ (ws ++ m .later) ≡ ended false vs
         → rr1 (chan w (after c st) .queue) true ≡ shownAt (length (valuesOf w c st)) (length vs)
     go [] h e = none-waits h t
     go (x ∷ ws) h e =
         rr1-holds true h
         ∙ shown x (ws ++ m .later) (mark-at (tookOf w c st) x (ws ++ m .later) vs e)
-        (omega (arith, length-append (tookOf w c st) (x ∷ (ws ++ m .later)), ap length e, ended-length false vs))
+        (omega (
+          arith,
+          length-append (tookOf w c st) (x ∷ (ws ++ m .later)),
+          ap length e,
+          ended-length false vs,
+        ))
 
 -- "D0 all sent (1 in SDLC)": a control read at pointer 1 answers RR1
-rr1-in : (c : Channel) (pending : Bool) (vector : ℕ) → c .pointer ≡ 1 → receivingOf (c .registers) (c .lines) .mode ≡ Sdlc → readRegister c pending vector ≡ rr1 (c .queue) true
+rr1-in : (c : Channel) (pending : Bool) (vector : ℕ) → c .pointer ≡ 1
+    → receivingOf (c .registers) (c .lines) .mode ≡ Sdlc
+    → readRegister c pending vector ≡ rr1 (c .queue) true
 unfolding readRegister rr1Now receivingOf sendingOf
 rr1-in c pending vector p d =
     let idle = not (underWay (c .sender .character)) && not (c .sender .shared .full) in
-    rw p (ap (λ (k : Mode). if inBlocks k then rr1Told (c .queue) (synchronous k || idle) (wrong (c .receiver .check))
+    rw p (ap (λ (k : Mode). if inBlocks k then rr1Told (c .queue) (synchronous k || idle)
+    (wrong (c .receiver .check))
     else rr1 (c .queue) (synchronous k || idle)) d)
 
-rr1-read : (w : Which) (c : Chip) → chan w c .pointer ≡ 1 → sideOf w c .settings .mode ≡ Sdlc → happens c (ControlRead (number w)) .answer ≡ Gave (rr1 (chan w c .queue) true)
+rr1-read : (w : Which) (c : Chip) → chan w c .pointer ≡ 1 → sideOf w c .settings .mode ≡ Sdlc
+    → happens c (ControlRead (number w)) .answer ≡ Gave (rr1 (chan w c .queue) true)
 unfolding controlReadCall
 rr1-read A c p d = ap Gave (rr1-in (c .a) (anyPending c) 0 p d)
 rr1-read B c p d = ap Gave (rr1-in (c .b) false (rr2 c) p d)
@@ -253,4 +298,5 @@ pub mark2 : Mark2
 mark2 w c xs ys note l n b f e p o t k =
     let m = always2 w c xs ys note l n b f e in
     rr1-read w (after c xs) k (ap (λ (g : Heeded). g .mode) (m .stays) ∙ l .mode)
-    ∙ ap Gave (rr1-shows w c xs (withCheck note) p o m t ∙ ap (shownAt (length (valuesOf w c xs))) (withCheck-length note))
+    ∙ ap Gave (rr1-shows w c xs (withCheck note) p o m t
+    ∙ ap (shownAt (length (valuesOf w c xs))) (withCheck-length note))

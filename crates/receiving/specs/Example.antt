@@ -1,5 +1,6 @@
--- The stories of demand 2, computed to meet what it asks: marked example 4 with other events behind every bit, with RR1 read at its last
--- character, with a bit flipped; two notes in a row; and stories that do not meet it. Then the theorems, said of them. Assumes nothing.
+-- The stories of demand 2, computed to meet what it asks: marked example 4 with other events behind
+-- every bit, with RR1 read at its last character, with a bit flipped; two notes in a row; and
+-- stories that do not meet it. Then the theorems, said of them. Assumes nothing.
 use mathlib.Core.Path.{_≡_, refl, ap, _∙_}
 use mathlib.Core.Bool.{true, false}
 use mathlib.Core.List.{List, [], _∷_, _++_}
@@ -54,7 +55,8 @@ pub record Examples : Type 0 where
   pub three : inRoom A begin unread ≡ true
   pub fourth : inRoom A begin (story A [] (frame (0xFF ∷ 0x88 ∷ []))) ≡ false
   -- a WR3 write is not quiet, whatever it writes
-  pub touched : inRoom A begin (story A (ControlWrite 0 3 ∷ ControlWrite 0 0b1 ∷ []) (frame (0xFF ∷ []))) ≡ false
+  pub touched : inRoom A begin
+      (story A (ControlWrite 0 3 ∷ ControlWrite 0 0b1 ∷ []) (frame (0xFF ∷ []))) ≡ false
   pub named-room : inRoom A begin (named ++ looks) ≡ true
   pub named-bits : bitsOf A (named ++ looks) ≡ frame (0xFF ∷ [])
   pub no-latch : (chan A begin .queue .parity ≡ false) × (chan A begin .queue .overrun ≡ false)
@@ -92,16 +94,21 @@ examples = record {
 
 -- the theorems speak of these stories
 
-pub noisy-received : Received A begin noisy (withCheck (0xFF ∷ [])) (ended false (withCheck (0xFF ∷ [])))
-noisy-received = demand2-run A begin noisy (0xFF ∷ []) (examples .listens) (omega arith) (more (omega arith) none) (examples .room) (told .noisy-bits)
+pub noisy-received : Received A begin noisy (withCheck (0xFF ∷ []))
+    (ended false (withCheck (0xFF ∷ [])))
+noisy-received =
+    demand2-run A begin noisy (0xFF ∷ []) (examples .listens) (omega arith)
+    (more (omega arith) none) (examples .room) (told .noisy-bits)
 
 noisy-listens : Listening (sideOf A (after begin noisy))
 noisy-listens =
-    listens-again A begin noisy (withCheck (0xFF ∷ [])) (ended false (withCheck (0xFF ∷ []))) (examples .listens) noisy-received (examples .all-read)
+    listens-again A begin noisy (withCheck (0xFF ∷ [])) (ended false (withCheck (0xFF ∷ [])))
+    (examples .listens) noisy-received (examples .all-read)
 
 named-moment : Moment A begin named (ended false (withCheck (0xFF ∷ [])))
 named-moment =
-    always2 A begin named looks (0xFF ∷ []) (examples .listens) (omega arith) (more (omega arith) none) (fed A begin (named ++ looks) (examples .named-room))
+    always2 A begin named looks (0xFF ∷ []) (examples .listens) (omega arith)
+    (more (omega arith) none) (fed A begin (named ++ looks) (examples .named-room))
     (examples .named-bits)
 
 named-overrun : chan A (after begin named) .queue .overrun ≡ chan A begin .queue .overrun
@@ -109,16 +116,20 @@ named-overrun = overrun-kept A begin named (ended false (withCheck (0xFF ∷ [])
 
 named-mark : happens (after begin named) (ControlRead 0) .answer ≡ Gave goodEnd
 named-mark =
-    mark2 A begin named looks (0xFF ∷ []) (examples .listens) (omega arith) (more (omega arith) none) (fed A begin (named ++ looks) (examples .named-room))
-    (examples .named-bits) (examples .no-latch .0) (examples .no-latch .1) (examples .last-waits) (examples .rr1-named)
+    mark2 A begin named looks (0xFF ∷ []) (examples .listens) (omega arith)
+    (more (omega arith) none) (fed A begin (named ++ looks) (examples .named-room))
+    (examples .named-bits) (examples .no-latch .0) (examples .no-latch .1) (examples .last-waits)
+    (examples .rr1-named)
     ∙ ap (λ (n : ℕ). Gave (if eqb (n + 1) 3 then goodEnd else noEnd)) (examples .two-read)
 
 twice-received : Received A begin twice (bytesOf (allEnded notes)) (allEnded notes)
 twice-received =
-    notes2 A begin twice notes (examples .listens) (one-more (more (omega arith) none) (one-more (more (omega arith) none) no-more))
+    notes2 A begin twice notes (examples .listens)
+    (one-more (more (omega arith) none) (one-more (more (omega arith) none) no-more))
     (fed A begin twice (examples .twice-room)) (examples .twice-bits)
 
 flip-found : Found A begin flipped 3
 flip-found =
-    flipped2 A begin flipped (0xFF ∷ []) [] unflipped true (examples .listens) (fed A begin flipped (examples .flipped-room)) (examples .content)
+    flipped2 A begin flipped (0xFF ∷ []) [] unflipped true (examples .listens)
+    (fed A begin flipped (examples .flipped-room)) (examples .content)
     (examples .flipped-bits)

@@ -1,4 +1,5 @@
--- A frame with one bit of content or check flipped before insertion: as many characters, the end mark, a bad check. Assumes nothing.
+-- A frame with one bit of content or check flipped before insertion: as many characters, the end
+-- mark, a bad check. Assumes nothing.
 use mathlib.Core.Path.{_≡_, sym, ap, _∙_, subst}
 use mathlib.Core.Bool.{Bool, true, not}
 use mathlib.Core.List.{List, _∷_, _++_}
@@ -23,8 +24,10 @@ use Rattle.receiving.specs.Statement.{Listening, Fed, Received, Flipped2
 use Rattle.receiving.specs.Demand.{addressOf, received-bytes}
 
 -- any whole bytes between flags, at least one
-pub bytes2 : (w : Which) (c : Chip) (st : List Event) (bytes : List ℕ) → Listening (sideOf w c) → 1 ≤ length bytes → Below 256 bytes → Fed w c st
-    → bitsOf w st ≡ betweenFlags (noteBits bytes) → Received w c st bytes (ended (badIf (checkOver sdlc ones (noteBits bytes))) bytes)
+pub bytes2 : (w : Which) (c : Chip) (st : List Event) (bytes : List ℕ) → Listening (sideOf w c)
+    → 1 ≤ length bytes → Below 256 bytes → Fed w c st
+    → bitsOf w st ≡ betweenFlags (noteBits bytes)
+    → Received w c st bytes (ended (badIf (checkOver sdlc ones (noteBits bytes))) bytes)
 bytes2 w c st bytes l n b f e =
     let a = addressOf (sideOf w c) in
     let s = sideOf w c .listener in
@@ -34,13 +37,24 @@ bytes2 w c st bytes l n b f e =
 pub flipped2 : Flipped2
 flipped2 w c st note xs ys b l f e h =
     let bs = xs ++ (not b ∷ ys) in
-    let k = of-bits (length note + 2) bs (omega (arith, content-length note, ap length e, length-append xs (b ∷ ys), length-append xs (not b ∷ ys))) in
-    let found = flip-found ones remainder xs ys b (ap (checkOver sdlc ones) (sym e) ∙ content-good note) in
+    let k =
+    of-bits (length note + 2) bs
+    (omega (
+      arith,
+      content-length note,
+      ap length e,
+      length-append xs (b ∷ ys),
+      length-append xs (not b ∷ ys),
+    )) in
+    let found =
+    flip-found ones remainder xs ys b (ap (checkOver sdlc ones) (sym e) ∙ content-good note) in
     let bad : badIf (checkOver sdlc ones (noteBits (k .bytes))) ≡ true =
-    ap (λ (l : List Bool). badIf (checkOver sdlc ones l)) (k .are) ∙ ap not (ne-eqb (checkOver sdlc ones bs) remainder found) in
+    ap (λ (l : List Bool). badIf (checkOver sdlc ones l)) (k .are)
+    ∙ ap not (ne-eqb (checkOver sdlc ones bs) remainder found) in
     record {
       bytes = k .bytes;
       count = k .count;
       given = subst (λ (t : Bool). Received w c st (k .bytes) (ended t (k .bytes))) bad
-          (bytes2 w c st (k .bytes) l (omega (arith, k .count)) (k .fit) f (h ∙ ap betweenFlags (sym (k .are))));
+          (bytes2 w c st (k .bytes) l (omega (arith, k .count)) (k .fit) f
+          (h ∙ ap betweenFlags (sym (k .are))));
     }

@@ -28,7 +28,8 @@ unfoldable pub inRoom : Which → Chip → List Event → Bool
 inRoom w c [] = true
 inRoom w c (e ∷ st) = allowed w c e (role w e) && inRoom w (happens c e .chip) st
 
-next-fed : (w : Which) (c : Chip) (e : Event) (st : List Event) (r : Role) → role w e ≡ r → allowed w c e r ≡ true → Fed w (happens c e .chip) st → Fed w c (e ∷ st)
+next-fed : (w : Which) (c : Chip) (e : Event) (st : List Event) (r : Role) → role w e ≡ r
+    → allowed w c e r ≡ true → Fed w (happens c e .chip) st → Fed w c (e ∷ st)
 next-fed w c e st (Hears b) p a f = hears p a f
 next-fed w c e st Reads p a f = reads p f
 next-fed w c e st Else p a f = still p (quiet-keeps w c e a) f
@@ -39,9 +40,11 @@ fed w c [] t = over
 fed w c (e ∷ st) t =
     let a = allowed w c e (role w e) in
     let n = inRoom w (happens c e .chip) st in
-    next-fed w c e st (role w e) refl (both-left a n t) (fed w (happens c e .chip) st (both-right a n t))
+    next-fed w c e st (role w e) refl (both-left a n t)
+    (fed w (happens c e .chip) st (both-right a n t))
 
 -- demand 2 with the test
-pub demand2-run : (w : Which) (c : Chip) (st : List Event) (note : List ℕ) → Listening (sideOf w c) → 1 ≤ length note → Below 256 note → inRoom w c st ≡ true
+pub demand2-run : (w : Which) (c : Chip) (st : List Event) (note : List ℕ) → Listening (sideOf w c)
+    → 1 ≤ length note → Below 256 note → inRoom w c st ≡ true
     → bitsOf w st ≡ frame note → Received w c st (withCheck note) (ended false (withCheck note))
 demand2-run w c st note l n b t e = demand2 w c st note l n b (fed w c st t) e

@@ -1,5 +1,5 @@
--- An abort over a story of chip events: no end mark among what was read and what waits, if there was none
--- among what waited. Assumes nothing.
+-- An abort over a story of chip events: no end mark among what was read and what waits, if there
+-- was none among what waited. Assumes nothing.
 use mathlib.Core.Path.{_≡_, refl, ap, _∙_}
 use mathlib.Core.Bool.{Bool, true}
 use mathlib.Core.List.{List, [], _++_, append-nil}
@@ -20,7 +20,8 @@ use Rattle.receiving.specs.Conserved.{conserved}
 
 pub abort-untold : (w : Which) (c : Chip) (st : List Event) (p o : Bool) (es : List Entry)
     (xs : List Bool) (n : ℕ) (zs : List Bool) (b : Bool) → Hearing (sideOf w c .settings)
-    → Holds p o (chan w c .queue) es → endMarks es ≡ 0 → Fed w c st → bitsOf w st ≡ abortedLine xs n zs b
+    → Holds p o (chan w c .queue) es → endMarks es ≡ 0 → Fed w c st
+    → bitsOf w st ≡ abortedLine xs n zs b
     → 7 ≤ n → flagFree (chan w c .receiver .content .ones) xs ≡ true → flagFree 7 zs ≡ true
     → NoEndTold w c st p o
 unfolding hearAll
@@ -30,7 +31,9 @@ abort-untold w c st p o es xs n zs b t h z f e k i j =
     let q = conserved w f (x .listener) (x .queue) (x .settings) es t refl h in
     let a = abort-no-end g (x .listener) xs n zs b k i j in
     let u = ap (λ (y : Final). endMarks (y .got)) (q .whole []) in
-    let v = ap (λ (l : List Bool). endMarks (es ++ hearAll g (x .listener) l .got)) (append-nil (bitsOf w st) ∙ e) in
+    let v =
+    ap (λ (l : List Bool). endMarks (es ++ hearAll g (x .listener) l .got))
+    (append-nil (bitsOf w st) ∙ e) in
     record {
       waiting = q .waiting;
       holds = rw (ap (λ (y : Side). y .queue) (q .there)) (q .holds);

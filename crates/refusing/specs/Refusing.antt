@@ -1,7 +1,8 @@
--- Demand 1: "Bad input gets a numbered refusal, each for its one stated cause; the chip and every lent buffer are then as before." The paper's
--- table, row by row, for the calls of the chip, for a line and for a list. A call is refused with the number of the first row that holds in the
--- order that the paper gives, and with none if none does. That every call accepts every input and ends is each function's own proof: no public
--- function has a `requires`. Assumes nothing.
+-- Demand 1: "Bad input gets a numbered refusal, each for its one stated cause; the chip and every
+-- lent buffer are then as before." The paper's table, row by row, for the calls of the chip, for a
+-- line and for a list. A call is refused with the number of the first row that holds in the order
+-- that the paper gives, and with none if none does. That every call accepts every input and ends is
+-- each function's own proof: no public function has a `requires`. Assumes nothing.
 use mathlib.Core.Path.{_≡_, refl}
 use mathlib.Core.Logic.{_≢_}
 use mathlib.Core.Bool.{not, _||_}
@@ -15,10 +16,12 @@ use Rattle.common.specs.Refusal.{numberOf}
 use Rattle.zeros.specs.declared.Counted.{Counted}
 use Rattle.line.specs.Frame.{frame, ticksOf}
 use Rattle.line.specs.Line.{noteFits}
+use Rattle.zeros.specs.Counted.{countedNumber}
 use Rattle.zeros.specs.Zeros.{countOf}
 use Rattle.writer.specs.Writer.{writeOf, bufferAfter}
 use Rattle.head.specs.declared.Head.{Head}
 use Rattle.head.specs.declared.Head.the-variants.{End, Note, Bad}
+use Rattle.head.specs.Number.{headNumber}
 use Rattle.head.specs.NoteHead.{lengthBytes, lengthAt, headOf}
 use Rattle.notes.specs.NoteList.{Reading, whole, refuses, restFrom, firstNote, version, longestList}
 use Rattle.notes.specs.NoteList.{readList}
@@ -32,10 +35,12 @@ use Rattle.zeros.specs.declared.Counted.the-variants as counted
 
 -- The chip's calls: rows 1, 2, 3, and 4 for acknowledge; which rows an event knows is `rowsOf`
 
-pub chip-refused : (c : Chip) (e : Event) → answerNumber (happens c e .answer) ≡ firstRow (rowsOf c e)
+pub chip-refused : (c : Chip) (e : Event)
+    → answerNumber (happens c e .answer) ≡ firstRow (rowsOf c e)
 chip-refused = refused-by-the-table
 
-pub chip-kept : (c : Chip) (e : Event) → answerNumber (happens c e .answer) ≢ 0 → happens c e .chip ≡ c
+pub chip-kept : (c : Chip) (e : Event) → answerNumber (happens c e .answer) ≢ 0
+    → happens c e .chip ≡ c
 chip-kept = refused-changes-nothing
 
 -- A line: "6, then 8"
@@ -44,38 +49,35 @@ chip-kept = refused-changes-nothing
 abbrev pub lengthBad : ℕ → Row
 lengthBad n = (6, not (noteFits n))
 
--- 8: "the lent line buffer has fewer bytes from the named place on (none if the place is past its end) than the line"
+-- 8: "the lent line buffer has fewer bytes from the named place on (none if the place is past its
+-- end) than the line"
 abbrev pub roomShort : List ℕ → List ℕ → ℕ → Row
 roomShort note buffer at = (8, ltb (length buffer - at) (ticksOf note))
 
-abbrev pub countedNumber : Counted → ℕ
-countedNumber (counted.Zeros z) = 0
-countedNumber (counted.Refused k) = numberOf k
-
--- the zeros inserted
-abbrev pub countedZeros : Counted → ℕ
-countedZeros (counted.Zeros z) = z
-countedZeros (counted.Refused k) = 0
-
-pub line-refused : (note buffer : List ℕ) (at : ℕ) → countedNumber (writeOf note buffer at) ≡ firstRow (lengthBad (length note) ∷ roomShort note buffer at ∷ [])
+pub line-refused : (note buffer : List ℕ) (at : ℕ)
+    → countedNumber (writeOf note buffer at)
+    ≡ firstRow (lengthBad (length note) ∷ roomShort note buffer at ∷ [])
 unfolding writeOf
 line-refused note buffer at =
     bool-or (noteFits (length note))
     (λ f. bool-or (ltb (length buffer - at) (ticksOf note)) (λ r. rw (f, r)) (λ r. rw (f, r)))
     (λ f. rw f)
 
-pub line-kept : (note buffer : List ℕ) (at : ℕ) → countedNumber (writeOf note buffer at) ≢ 0 → bufferAfter (writeOf note buffer at) (frame note) buffer at ≡ buffer
+pub line-kept : (note buffer : List ℕ) (at : ℕ) → countedNumber (writeOf note buffer at) ≢ 0
+    → bufferAfter (writeOf note buffer at) (frame note) buffer at ≡ buffer
 line-kept note buffer at = go (writeOf note buffer at)
   where
     go : (w : Counted) → countedNumber w ≢ 0 → bufferAfter w (frame note) buffer at ≡ buffer
     go (counted.Zeros z) n = absurd (n refl)
     go (counted.Refused k) n = refl
 
-pub zeros-refused : (note : List ℕ) → countedNumber (countOf note) ≡ firstRow (lengthBad (length note) ∷ [])
+pub zeros-refused : (note : List ℕ)
+    → countedNumber (countOf note) ≡ firstRow (lengthBad (length note) ∷ [])
 unfolding countOf
 zeros-refused note = bool-or (noteFits (length note)) (λ f. rw f) (λ f. rw f)
 
--- A list: "9, 5, then note by note 7 for a cut length, 6, 7 for a cut note; the first bad note decides"
+-- A list: "9, 5, then note by note 7 for a cut length, 6, 7 for a cut note; the first bad note
+-- decides"
 
 -- 9: "list longer than 65,535 bytes"
 abbrev pub listLong : List ℕ → Row
@@ -92,25 +94,17 @@ lengthCut list i = (7, ltb (length list - i) lengthBytes)
 abbrev pub noteCut : List ℕ → ℕ → Row
 noteCut list i = (7, ltb (length list - i - lengthBytes) (lengthAt list i))
 
-abbrev pub headNumber : Head → ℕ
-headNumber End = 0
-headNumber (Note k) = 0
-headNumber (Bad k) = numberOf k
-
--- the note's bytes
-abbrev pub headBytes : Head → ℕ
-headBytes End = 0
-headBytes (Note k) = k
-headBytes (Bad k) = 0
-
 pub note-refused : (list : List ℕ) (i : ℕ)
-    → headNumber (headOf list i) ≡ (if leb (length list) i then 0 else firstRow (lengthCut list i ∷ lengthBad (lengthAt list i) ∷ noteCut list i ∷ []))
+    → headNumber (headOf list i)
+    ≡ (if leb (length list) i then 0 else firstRow
+    (lengthCut list i ∷ lengthBad (lengthAt list i) ∷ noteCut list i ∷ []))
 unfolding headOf
 note-refused list i =
     bool-or (leb (length list) i) (λ e. rw e)
     (λ e. bool-or (ltb (length list - i) lengthBytes) (λ f. rw (e, f))
     (λ f. bool-or (noteFits (lengthAt list i))
-    (λ g. bool-or (ltb (length list - i - lengthBytes) (lengthAt list i)) (λ h. rw (e, f, g, h)) (λ h. rw (e, f, g, h)))
+    (λ g. bool-or (ltb (length list - i - lengthBytes) (lengthAt list i)) (λ h. rw (e, f, g, h))
+    (λ h. rw (e, f, g, h)))
     (λ g. rw (e, f, g))))
 
 abbrev pub readingNumber : Reading → ℕ
@@ -118,7 +112,9 @@ readingNumber (whole notes) = 0
 readingNumber (refuses k) = numberOf k
 
 pub list-refused : (list : List ℕ)
-    → readingNumber (readList list) ≡ (if listLong list .1 then 9 else (if listNone list .1 then 5 else readingNumber (restFrom list firstNote)))
+    → readingNumber (readList list)
+    ≡ (if listLong list .1 then 9 else
+    (if listNone list .1 then 5 else readingNumber (restFrom list firstNote)))
 unfolding readList
 list-refused list =
     bool-or (ltb longestList (length list)) (λ e. rw e)

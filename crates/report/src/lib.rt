@@ -11,6 +11,7 @@ use head::note_at;
 use notes::FIRST_NOTE;
 use notes::Scanned;
 use notes::scan;
+ghost use Rattle.report.specs.Pages.{pagesNumber, pagesTicks};
 ghost use mathlib.Core.Path.{_≡_};
 ghost use Rattle.notes.specs.NoteList.{readList, scanned};
 ghost use Rattle.notes.specs.declared.Scanned.the-variants.{Notes};
@@ -22,6 +23,28 @@ ghost use Rattle.report.specs.Report.{reportOf, pagesOf};
 pub enum Pages {
     Ticks(usize),
     Refused(Refusal),
+}
+
+impl Pages {
+    // The paper's number of the refusal, 0 for none.
+    pub fn number(self) -> u8
+        ensures { λ r. ⌜ r ≡ pagesNumber self ⌝ }
+    {
+        match self {
+            Pages::Ticks(t) => 0,
+            Pages::Refused(k) => k.number(),
+        }
+    }
+
+    // Ticks in all, 0 for a refusal.
+    pub fn ticks(self) -> usize
+        ensures { λ r. ⌜ r ≡ pagesTicks self ⌝ }
+    {
+        match self {
+            Pages::Ticks(t) => t,
+            Pages::Refused(k) => 0,
+        }
+    }
 }
 
 // The ticks of a list in which the scan found so many notes.

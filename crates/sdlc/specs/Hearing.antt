@@ -1,5 +1,5 @@
--- 01, Receiving: the paragraph on SDLC, a bit at a time. Every receiver is accepted, also one that no
--- history made. Assumes nothing.
+-- 01, Receiving: the paragraph on SDLC, a bit at a time. Every receiver is accepted, also one that
+-- no history made. Assumes nothing.
 use mathlib.Core.Bool.{Bool, true, false, not, _&&_, _||_}
 use Prim.Native.Nat.{ℕ, _+_, _*_, _/_, _%_}
 use lib.Dec.{eqb, ltb}
@@ -104,10 +104,11 @@ accept g c k o x d b =
     if ltb (c .count) lastBit
     then unheard (listener o d (chars (c .count + 1) v (c .have) (c .held)) n x)
     else (if wrong g (c .have) v then unheard (dropping o n x)
-    else listened (listener o d (chars 0 0 true v) n x) (c .have) (plainEntry (c .held) false false))
+    else listened (listener o d (chars 0 0 true v) n x) (c .have)
+    (plainEntry (c .held) false false))
 
--- a bit of content: "through a seven-bit delay so that flag bits never enter". o ones in a row stand
--- behind it; D7 is x
+-- a bit of content: "through a seven-bit delay so that flag bits never enter". o ones in a row
+-- stand behind it; D7 is x
 unfoldable pub push : Addressing → Listener → ℕ → Bool → Bool → Listened
 push g s o x b =
     let d = s .content .delay in
@@ -119,8 +120,8 @@ push g s o x b =
 abbrev pub deaf : Content → Bool
 deaf c = c .hunt || c .skip
 
--- "or at the flag with the end mark. Its check is good when content is whole bytes and the remainder
--- from ones is 1D0F hex"
+-- "or at the flag with the end mark. Its check is good when content is whole bytes and the
+-- remainder from ones is 1D0F hex"
 abbrev pub closing : Chars → ℕ → Entry
 closing c k = plainEntry (c .held) true (not (eqb (c .count) 0 && eqb k remainder))
 
@@ -130,8 +131,8 @@ pastFlag = heardSo (contentAt false false 0) ones false
 
 -- A tick
 
--- a 1: "a seventh one is an abort (outside hunt): D7 sets until the next 0, and the frame is dropped
--- until a flag"
+-- a 1: "a seventh one is an abort (outside hunt): D7 sets until the next 0, and the frame is
+-- dropped until a flag"
 unfoldable pub one : Addressing → Listener → Listened
 one g s =
     let c = s .content in

@@ -1,6 +1,6 @@
--- 01, Sending: the SDLC sender, a tick at a time. A unit holds first the number of its bits that are
--- still to be sent, then what is left to shift out. Every sender and every setting has its tick, also
--- one that no history makes. Assumes nothing.
+-- 01, Sending: the SDLC sender, a tick at a time. A unit holds first the number of its bits that
+-- are still to be sent, then what is left to shift out. Every sender and every setting has its
+-- tick, also one that no history makes. Assumes nothing.
 use mathlib.Core.Bool.{Bool, true, false, not, _&&_}
 use Prim.Native.Nat.{ℕ, _-_, _/_}
 use lib.Dec.{eqb}
@@ -58,23 +58,24 @@ startByte g run k =
     let i = counted run (odd v) in
     framed (odd v) true (framer (Byte 7 (v / 2)) i (emptied (entered sdlc (g .included) k)))
 
--- "The check: .. complemented, x^15 first (ISO/IEC 13239), taken at its first bit. Sending it leaves the
--- generator alone."
+-- "The check: .. complemented, x^15 first (ISO/IEC 13239), taken at its first bit. Sending it
+-- leaves the generator alone."
 abbrev pub startCheck : ℕ → Shared → Framed
 startCheck run k =
     let c = complement (k .check) in
     sentBit (top c) (Check 15 (shifted c)) (counted run (top c)) k
 
--- "After mark or abort: flag. After flag: byte if the buffer is full, else flag. After byte: byte if
--- full; else, if the latch is clear and WR5 D0 set, check, otherwise flag; either sets the latch. After
--- check: flag."
+-- "After mark or abort: flag. After flag: byte if the buffer is full, else flag. After byte: byte
+-- if full; else, if the latch is clear and WR5 D0 set, check, otherwise flag; either sets the
+-- latch. After check: flag."
 unfoldable pub following : Framing → LineUnit → ℕ → Shared → Framed
 following g Mark run k = startFlag k
 following g (Abort n) run k = startFlag k
 following g (Flag n) run k = if k .full then startByte g run k else startFlag k
 following g (Byte n v) run k =
     if k .full then startByte g run k
-    else (if not (k .latch) && g .included then startCheck run (latched k) else startFlag (latched k))
+    else (if not (k .latch)
+    && g .included then startCheck run (latched k) else startFlag (latched k))
 following g (Check n v) run k = startFlag k
 
 -- "The next unit is chosen on the tick that sends its first bit, after any owed 0: if off, mark."
@@ -128,8 +129,8 @@ aborting (Byte n v) = false
 aborting (Check n v) = false
 aborting (Abort n) = true
 
--- "Send Abort (SDLC, on, no abort under way; else nothing) empties buffer and shifter, drops an owed
--- zero, sets the latch, and eight ones start on the next tick."
+-- "Send Abort (SDLC, on, no abort under way; else nothing) empties buffer and shifter, drops an
+-- owed zero, sets the latch, and eight ones start on the next tick."
 abbrev pub cutShort : Framer → Framer
 cutShort s = framer (Abort 8) notCounted (emptied (latched (s .shared)))
 

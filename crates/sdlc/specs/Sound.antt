@@ -1,7 +1,7 @@
--- What only an SDLC sender and receiver with a history have: a unit's bits still to be sent are fewer
--- than the unit has, ones are counted and a zero is owed in byte and check alone, and the count stays
--- below five; at most seven ones are counted on the line, the delay has its leading one and fits a byte,
--- and a character behind it has at most seven bits. Assumes nothing.
+-- What only an SDLC sender and receiver with a history have: a unit's bits still to be sent are
+-- fewer than the unit has, ones are counted and a zero is owed in byte and check alone, and the
+-- count stays below five; at most seven ones are counted on the line, the delay has its leading one
+-- and fits a byte, and a character behind it has at most seven bits. Assumes nothing.
 use mathlib.Core.Path.{_≡_}
 use mathlib.Core.Bool.{Bool, false}
 use Prim.Native.Nat.{ℕ, _≤_, _<_}

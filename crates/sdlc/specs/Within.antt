@@ -1,7 +1,7 @@
--- Most ticks, in a form of their own and no part of 01: while a byte has bits left, neither settings nor
--- buffer have a part in a transmit tick; and a bit of content behind a full delay that ends no
--- character, no flag and no abort hands nothing over, and hunt and D7 stay off. That they are the ticks
--- is said in Laws/Within. Assumes nothing.
+-- Most ticks, in a form of their own and no part of 01: while a byte has bits left, neither
+-- settings nor buffer have a part in a transmit tick; and a bit of content behind a full delay that
+-- ends no character, no flag and no abort hands nothing over, and hunt and D7 stay off. That they
+-- are the ticks is said in Laws/Within. Assumes nothing.
 use mathlib.Core.Bool.{Bool, true, false, not, _&&_}
 use Prim.Native.Nat.{ℕ, _+_}
 use lib.Dec.{eqb, ltb}
@@ -18,7 +18,8 @@ use Rattle.sdlc.specs.Hearing.{spilled, oldestBit}
 
 -- Sending
 
--- the bits of a byte that are still to be sent, and what is left of it to shift out; 0 in another unit
+-- the bits of a byte that are still to be sent, and what is left of it to shift out; 0 in another
+-- unit
 abbrev pub byteLeft : LineUnit → ℕ
 byteLeft Mark = 0
 byteLeft (Flag n) = 0
@@ -68,4 +69,5 @@ movedOn s b =
     let k = c .chars in
     let out = oldestBit (c .delay) in
     let more = chars (countAfter (k .count)) (shiftIn out (k .part)) (k .have) (k .held) in
-    listener (onesAfter (c .ones) b) (spilled (c .delay) b) more (checkStep sdlc (s .check) out) (s .broken)
+    listener (onesAfter (c .ones) b) (spilled (c .delay) b) more (checkStep sdlc (s .check) out)
+    (s .broken)

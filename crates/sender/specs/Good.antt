@@ -1,5 +1,5 @@
--- Demand 3: "with the SDLC sender on .., check .. included, .. no break". What else the settings hold,
--- SDLC does not look at. Assumes nothing.
+-- Demand 3: "with the SDLC sender on .., check .. included, .. no break". What else the settings
+-- hold, SDLC does not look at. Assumes nothing.
 use mathlib.Core.Path.{_≡_}
 use mathlib.Core.Bool.{true, false}
 use Rattle.common.specs.declared.Mode.the-variants.{Sdlc}

@@ -1,5 +1,5 @@
--- 01, Sending: one channel's sender: what all modes share, which mode ticks, and break. Every sender
--- and every setting has its tick, also one that no history makes. Assumes nothing.
+-- 01, Sending: one channel's sender: what all modes share, which mode ticks, and break. Every
+-- sender and every setting has its tick, also one that no history makes. Assumes nothing.
 use mathlib.Core.Bool.{Bool, true, false, not, _&&_, _||_}
 use Prim.Native.Nat.{ℕ}
 use Rattle.common.specs.Choice.{if_then_else_}
@@ -100,20 +100,20 @@ checkPreset m s = withShared s (checkSet (s .shared) (presetFor m))
 abbrev pub latchCleared : Sender → Sender
 latchCleared s = withShared s (cleared (s .shared))
 
--- 01, Registers: "An accepted WR4 that changes the mode idles the sender as after a mark, keeps buffer
--- and queue": every mode is at rest
+-- 01, Registers: "An accepted WR4 that changes the mode idles the sender as after a mark, keeps
+-- buffer and queue": every mode is at rest
 abbrev pub idled : Sender → Sender
 idled s = sender Mark notCounted noCharacter blocks.Mark (s .shared)
 
--- 01, Registers: "A channel reset .. empties buffer and queue, .. sets D6, .. presets both checks to
--- ones"
+-- 01, Registers: "A channel reset .. empties buffer and queue, .. sets D6, .. presets both checks
+-- to ones"
 abbrev pub atReset : Sender
 atReset = sender Mark notCounted noCharacter blocks.Mark sharedAtReset
 
 -- What status reads
 
--- 01, Registers: RR1 "D0 all sent (1 in SDLC)", as in Monosync and Bisync; "Outside SDLC, all sent means
--- no character under way and the buffer empty."
+-- 01, Registers: RR1 "D0 all sent (1 in SDLC)", as in Monosync and Bisync; "Outside SDLC, all sent
+-- means no character under way and the buffer empty."
 abbrev pub allSent : Sending → Sender → Bool
 allSent g s = synchronous (g .mode) || (not (underWay (s .character)) && not (s .shared .full))
 

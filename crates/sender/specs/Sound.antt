@@ -1,5 +1,6 @@
--- What only a sender with a history has: SDLC's unit and zero insertion, the asynchronous character, and
--- the unit of Monosync and Bisync are such as a history leaves them. Assumes nothing.
+-- What only a sender with a history has: SDLC's unit and zero insertion, the asynchronous
+-- character, and the unit of Monosync and Bisync are such as a history leaves them. Assumes
+-- nothing.
 use Rattle.asynchronous.specs.Sound.{SoundCharacter}
 use Rattle.bytesync.specs.Sound.{SoundBlockUnit}
 use Rattle.sdlc.specs.Sound.{SoundUnit}

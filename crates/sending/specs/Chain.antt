@@ -1,4 +1,5 @@
--- A closing flag opens the next frame: the check preset and the latch cleared within it, demand 3 starts again. Assumes nothing.
+-- A closing flag opens the next frame: the check preset and the latch cleared within it, demand 3
+-- starts again. Assumes nothing.
 use mathlib.Core.Path.{_≡_, refl, sym, ap, _∙_, subst}
 use mathlib.Core.Bool.{true, false}
 use mathlib.Core.List.{[], _∷_, _++_}
@@ -49,20 +50,25 @@ pub mode-in : (c : Channel) → Good (sendingIn c) → modeIn (c .registers) ≡
 unfolding sendingOf
 mode-in c h = h .sdlc-mode
 
-preset-left : (c : Channel) (s : Side) → c .pointer ≡ 0 → Left c (controlWritten c s 0b10000000 .channel) (checkPreset (modeIn (c .registers)))
+preset-left : (c : Channel) (s : Side) → c .pointer ≡ 0
+    → Left c (controlWritten c s 0b10000000 .channel) (checkPreset (modeIn (c .registers)))
 unfolding controlWritten writeWr0 commandStep presetStep commanded preset settled
 preset-left c s p = rw (at-zero c p) (record { sender = refl; settings = refl; pointer = refl })
 
-clear-left : (c : Channel) (s : Side) → c .pointer ≡ 0 → Left c (controlWritten c s 0b11000000 .channel) latchCleared
+clear-left : (c : Channel) (s : Side) → c .pointer ≡ 0
+    → Left c (controlWritten c s 0b11000000 .channel) latchCleared
 unfolding controlWritten writeWr0 commandStep presetStep commanded preset settled
 clear-left c s p = rw (at-zero c p) (record { sender = refl; settings = refl; pointer = refl })
 
-pub write-preset : (w : Which) (c : Chip) → chan w c .pointer ≡ 0 → Left (chan w c) (chan w (happens c (ControlWrite (number w) 0b10000000) .chip)) (checkPreset (modeIn (chan w c .registers)))
+pub write-preset : (w : Which) (c : Chip) → chan w c .pointer ≡ 0
+    → Left (chan w c) (chan w (happens c (ControlWrite (number w) 0b10000000) .chip))
+    (checkPreset (modeIn (chan w c .registers)))
 unfolding controlWrite controlWriteA
 write-preset A c p = rw (at-zero (c .a) p) (preset-left (c .a) channels.A p)
 write-preset B c p = preset-left (c .b) channels.B p
 
-pub write-clear : (w : Which) (c : Chip) → chan w c .pointer ≡ 0 → Left (chan w c) (chan w (happens c (ControlWrite (number w) 0b11000000) .chip)) latchCleared
+pub write-clear : (w : Which) (c : Chip) → chan w c .pointer ≡ 0
+    → Left (chan w c) (chan w (happens c (ControlWrite (number w) 0b11000000) .chip)) latchCleared
 unfolding controlWrite controlWriteA
 write-clear A c p = rw (at-zero (c .a) p) (clear-left (c .a) channels.A p)
 write-clear B c p = clear-left (c .b) channels.B p
@@ -74,14 +80,17 @@ starts-anew w c p h =
     let x = write-preset w c (h .to-wr0) in
     let y = write-clear w d (x .pointer) in
     let e = chan w (happens d (ControlWrite (number w) 0b11000000) .chip) in
-    let s : e .sender ≡ latchCleared (checkPreset (modeIn (chan w c .registers)) (chan w c .sender)) = y .sender ∙ ap latchCleared (x .sender) in
+    let s : e .sender
+    ≡ latchCleared (checkPreset (modeIn (chan w c .registers)) (chan w c .sender)) = y .sender
+    ∙ ap latchCleared (x .sender) in
     let g : sendingIn e ≡ sendingIn (chan w c) = y .settings ∙ x .settings in
     record {
       some = h .some;
       inside = h .inside;
       flag = ap (λ (t : Sender). t .unit) s ∙ h .flag;
       empty = ap (λ (t : Sender). t .shared .full) s ∙ h .empty;
-      preset = ap (λ (t : Sender). t .shared .check) s ∙ ap presetFor (mode-in (chan w c) (h .settings));
+      preset =
+          ap (λ (t : Sender). t .shared .check) s ∙ ap presetFor (mode-in (chan w c) (h .settings));
       cleared = ap (λ (t : Sender). t .shared .latch) s;
       settings = rw g (h .settings);
       history = subst (λ (x : Sender). SoundUnit (x .unit) (x .insertion)) (sym s) (h .history);
@@ -90,9 +99,12 @@ starts-anew w c p h =
 -- nothing is to come: the closing flag's last bit is sent
 flag-ended : {s : Framer} {n : ℕ} → Stage false s n [] → length (toCome s []) ≡ 0
     → (s .unit ≡ Flag 0) × SoundUnit (s .unit) (s .insertion)
-flag-ended (opening k b f c n _ m p) z = absurd (omega (arith, unended-some (opening {a = false} k b f c n [] m p) refl))
-flag-ended (inByte k v r o b f c n _ m) z = absurd (omega (arith, unended-some (inByte {a = false} k v r o b f c n [] m) refl))
-flag-ended (inCheck k v r o b f c n) z = absurd (omega (arith, unended-some (inCheck {a = false} k v r o b f c n) refl))
+flag-ended (opening k b f c n _ m p) z =
+    absurd (omega (arith, unended-some (opening {a = false} k b f c n [] m p) refl))
+flag-ended (inByte k v r o b f c n _ m) z =
+    absurd (omega (arith, unended-some (inByte {a = false} k v r o b f c n [] m) refl))
+flag-ended (inCheck k v r o b f c n) z =
+    absurd (omega (arith, unended-some (inCheck {a = false} k v r o b f c n) refl))
 flag-ended (closing zero b f c n) z = (refl, ((refl, refl), omega arith))
 flag-ended (closing (suc k) b f c n) z = absurd (omega arith)
 
@@ -102,7 +114,14 @@ frame-ends w c p v vs st s i n f q =
     let k = frame-kept w c p v vs [] st s i (omega arith) in
     let t = toCome (k .0 .last) [] in
     let z : length t ≡ 0 =
-    omega (arith, ap length (k .1), length-append (flagHead p) (lineOf w c st ++ t), length-append (lineOf w c st) t, length-append (flagHead p) (lineOf w c st), sent-length w c p st (s .inside)) in
+    omega (
+      arith,
+      ap length (k .1),
+      length-append (flagHead p) (lineOf w c st ++ t),
+      length-append (lineOf w c st) t,
+      length-append (flagHead p) (lineOf w c st),
+      sent-length w c p st (s .inside),
+    ) in
     let e = flag-ended (k .0 .stage) z in
     let there : framerOf (chan w (after c st) .sender) ≡ k .0 .last =
     ap (λ (x : SenderSide). x .sender) (k .0 .there) in
@@ -111,7 +130,9 @@ frame-ends w c p v vs st s i n f q =
       inside = omega arith;
       flag = ap (λ (x : Framer). x .unit) there ∙ e .0;
       empty = f;
-      settings = good-of (sendingIn (chan w (after c st))) (ap (λ (x : SenderSide). x .heeds) (k .0 .there));
+      settings =
+          good-of (sendingIn (chan w (after c st)))
+          (ap (λ (x : SenderSide). x .heeds) (k .0 .there));
       history = subst (λ (x : Framer). SoundUnit (x .unit) (x .insertion)) (sym there) (e .1);
       to-wr0 = q;
     }

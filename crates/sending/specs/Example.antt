@@ -1,5 +1,6 @@
--- The stories of demand 3, computed to meet what it asks: one in time amid all sorts of other events, one at the last moment, one with an
--- underrun; and stories that do not meet it. Then the theorems, said of them. Assumes nothing.
+-- The stories of demand 3, computed to meet what it asks: one in time amid all sorts of other
+-- events, one at the last moment, one with an underrun; and stories that do not meet it. Then the
+-- theorems, said of them. Assumes nothing.
 use mathlib.Core.Path.{_≡_, refl}
 use mathlib.Core.Bool.{true, false}
 use mathlib.Core.List.{List, [], _∷_, _++_}
@@ -54,13 +55,15 @@ pub record Examples : Type 0 where
   pub first : timely A begin 2 (0 ∷ []) (times 5 tick ++ (DataWrite 0 0 ∷ [])) ≡ true
   pub first-late : timely A begin 2 (0 ∷ []) (times 6 tick ++ (DataWrite 0 0 ∷ [])) ≡ false
   -- a WR5 write that turns the check off, and a clearing of the latch, are not quiet
-  pub touched : timely A begin 2 (0 ∷ []) (DataWrite 0 0 ∷ ControlWrite 0 5 ∷ ControlWrite 0 0b1000 ∷ []) ≡ false
+  pub touched : timely A begin 2 (0 ∷ [])
+      (DataWrite 0 0 ∷ ControlWrite 0 5 ∷ ControlWrite 0 0b1000 ∷ []) ≡ false
   pub cleared : timely A begin 2 (0 ∷ []) (DataWrite 0 0 ∷ ControlWrite 0 0b11000000 ∷ []) ≡ false
   -- the line runs dry, and a byte comes too late
   pub dry-timely : timely A begin 2 (0 ∷ []) dry ≡ true
   pub runs-dry : RunsDry A choosing
   pub unlatched : statusLatched A choosing ≡ false
-  pub at-wr0 : (chan A choosing .pointer ≡ 0) × (chan A (after choosing (Transmit 0 ∷ late)) .pointer ≡ 0)
+  pub at-wr0 : (chan A choosing .pointer ≡ 0)
+      × (chan A (after choosing (Transmit 0 ∷ late)) .pointer ≡ 0)
   pub late-free : freely A (happens choosing (Transmit 0) .chip) late ≡ true
   pub dry-watched : watching A begin dry ≡ true
   pub late-watched : watching A begin whole ≡ true
@@ -101,7 +104,8 @@ examples = record {
 
 pub starts : Start A begin 3
 starts =
-    start-of A begin 3 (reset-sound setUp) (omega arith) (omega arith) (examples .flag) (examples .empty) (examples .preset) (examples .latch-cleared)
+    start-of A begin 3 (reset-sound setUp) (omega arith) (omega arith) (examples .flag)
+    (examples .empty) (examples .preset) (examples .latch-cleared)
     (examples .settings)
 
 noisy-sent : flagHead 3 ++ lineOf A begin noisy ≡ frame (255 ∷ 136 ∷ [])
@@ -111,7 +115,8 @@ noisy-sent = demand3-tested A begin 3 255 (136 ∷ []) noisy starts (examples .n
 noisy-ends : Closing A (after begin noisy) 8
 unfolding ticks times stuff zeros textBits lowBits checkOver checkStep checkBits topBits
 noisy-ends =
-    frame-ends A begin 3 255 (136 ∷ []) noisy starts (in-time A begin 2 (255 ∷ 136 ∷ []) noisy (examples .noisy-timely)) refl
+    frame-ends A begin 3 255 (136 ∷ []) noisy starts
+    (in-time A begin 2 (255 ∷ 136 ∷ []) noisy (examples .noisy-timely)) refl
     (examples .noisy-end .0) (examples .noisy-end .1)
 
 next-starts : Start A (after (after begin noisy) (anew A)) 8
@@ -120,7 +125,8 @@ next-starts = starts-anew A (after begin noisy) 8 noisy-ends
 begun-sent : flagHead 3 ++ lineOf A begin begun ≡ take 20 (frame (1 ∷ 2 ∷ []))
 unfolding ticks times stuff zeros textBits lowBits checkOver checkStep checkBits topBits
 begun-sent =
-    frame-begun A begin 3 1 (2 ∷ []) [] begun starts (in-time A begin 2 (1 ∷ 2 ∷ []) begun (examples .begun-timely)) (omega arith)
+    frame-begun A begin 3 1 (2 ∷ []) [] begun starts
+    (in-time A begin 2 (1 ∷ 2 ∷ []) begun (examples .begun-timely)) (omega arith)
 
 dry-underrun : Underrun A choosing
 dry-underrun = underrun A choosing (examples .at-wr0 .0) (examples .runs-dry)
@@ -128,20 +134,25 @@ dry-underrun = underrun A choosing (examples .at-wr0 .0) (examples .runs-dry)
 late-frame : flagHead 3 ++ lineOf A begin whole ≡ frame (0 ∷ [])
 unfolding ticks times stuff zeros textBits lowBits checkOver checkStep checkBits topBits
 late-frame =
-    late-sent A begin 3 0 [] dry late starts (in-time A begin 2 (0 ∷ []) dry (examples .dry-timely)) (examples .runs-dry)
+    late-sent A begin 3 0 [] dry late starts (in-time A begin 2 (0 ∷ []) dry (examples .dry-timely))
+    (examples .runs-dry)
     (free-of A (happens choosing (Transmit 0) .chip) late (examples .late-free)) refl
 
 late-seen : d6 A (after choosing (Transmit 0 ∷ late)) ≡ true
 late-seen =
-    underrun-seen A choosing late (examples .runs-dry) (examples .unlatched) (free-of A (happens choosing (Transmit 0) .chip) late (examples .late-free))
+    underrun-seen A choosing late (examples .runs-dry) (examples .unlatched)
+    (free-of A (happens choosing (Transmit 0) .chip) late (examples .late-free))
     (examples .at-wr0 .1)
 
 held-shown : d6 A (happens held (ControlWrite 0 resetStatus) .chip) ≡ true
 held-shown = reset-shows A held (examples .held-set .0) (examples .held-set .1)
 
 dry-open : NotClosed A choosing
-dry-open = never-unseen A begin 3 dry starts (watched-of A begin dry (examples .dry-watched)) (examples .at-wr0 .0) (told .before-choice)
+dry-open =
+    never-unseen A begin 3 dry starts (watched-of A begin dry (examples .dry-watched))
+    (examples .at-wr0 .0) (told .before-choice)
 
 frame-shows : d6 A (after begin whole) ≡ true
 frame-shows =
-    frame-seen A begin 3 whole (0 ∷ []) starts (watched-of A begin whole (examples .late-watched)) (examples .late-wr0) (told .late-line)
+    frame-seen A begin 3 whole (0 ∷ []) starts (watched-of A begin whole (examples .late-watched))
+    (examples .late-wr0) (told .late-line)

@@ -1,4 +1,5 @@
--- Demand 3's frame: what was sent, followed by what is to come, is the frame at every moment. One induction over the story. Assumes nothing.
+-- Demand 3's frame: what was sent, followed by what is to come, is the frame at every moment. One
+-- induction over the story. Assumes nothing.
 use mathlib.Core.Path.{_≡_, refl, sym, ap, ap₂, _∙_}
 use mathlib.Core.Bool.{Bool, false}
 use mathlib.Core.List.{List, [], _∷_, _++_, append-assoc, append-nil}
@@ -33,7 +34,8 @@ use Rattle.whole.specs.Come as come
 -- The law of a story in time
 
 -- at its end: what was sent and what is to come are what was to come
-pub record Conserved (a : Bool) (w : Which) (c : Chip) (st : List Event) (s : Framer) (rest left : List ℕ) : Type 0 where
+pub record Conserved (a : Bool) (w : Which) (c : Chip) (st : List Event) (s : Framer)
+    (rest left : List ℕ) : Type 0 where
   pub last : Framer
   pub since : ℕ
   pub there : sideOf w (after c st) ≡ side last good
@@ -41,21 +43,25 @@ pub record Conserved (a : Bool) (w : Which) (c : Chip) (st : List Event) (s : Fr
   pub whole : lineOf w c st ++ toCome last left ≡ toCome s rest
 
 -- a story that begins with an event that is no tick, from what is so behind it
-skip : {a : Bool} (w : Which) (c : Chip) (x : Event) (st : List Event) (s t : Framer) (rest more left : List ℕ) → isTick w x ≡ false
-    → toCome s rest ≡ toCome t more → Conserved a w (happens c x .chip) st t more left → Conserved a w c (x ∷ st) s rest left
+skip : {a : Bool} (w : Which) (c : Chip) (x : Event) (st : List Event) (s t : Framer)
+    (rest more left : List ℕ) → isTick w x ≡ false
+    → toCome s rest ≡ toCome t more → Conserved a w (happens c x .chip) st t more left
+    → Conserved a w c (x ∷ st) s rest left
 unfolding after
 skip w c x st s t rest more left z e k = record {
   last = k .last;
   since = k .since;
   there = k .there;
   stage = k .stage;
-  whole = ap (λ (l : List Bool). l ++ toCome (k .last) left) (skip-line w c x st z) ∙ k .whole ∙ sym e;
+  whole =
+      ap (λ (l : List Bool). l ++ toCome (k .last) left) (skip-line w c x st z) ∙ k .whole ∙ sym e;
 }
 
 -- and one that begins with a tick
 ticks-on : {a : Bool} (w : Which) (c : Chip) (st : List Event) (s t : Framer) (bit : Bool)
     (rest left : List ℕ) → sideOf w c .heeds ≡ good → tickedOf w c .bit ≡ bit
-    → toCome s rest ≡ bit ∷ toCome t rest → Conserved a w (happens c (Transmit (number w)) .chip) st t rest left
+    → toCome s rest ≡ bit ∷ toCome t rest
+    → Conserved a w (happens c (Transmit (number w)) .chip) st t rest left
     → Conserved a w c (Transmit (number w) ∷ st) s rest left
 unfolding lineOf after
 ticks-on w c st s t bit rest left h z e k = record {
@@ -70,24 +76,32 @@ ticks-on w c st s t bit rest left h z e k = record {
       ∙ ap (λ (b : List Bool). bit ∷ b) (k .whole) ∙ sym e;
 }
 
-pub conserved : {a : Bool} (w : Which) {left : List ℕ} {c : Chip} {n : ℕ} {rest : List ℕ} {st : List Event} → InTime w left c n rest st
-    → (s : Framer) → sideOf w c ≡ side s good → Stage a s n rest → ticks w st ≤ length (toCome s rest) → Conserved a w c st s rest left
+pub conserved : {a : Bool}
+    (w : Which) {left : List ℕ} {c : Chip} {n : ℕ} {rest : List ℕ} {st : List Event}
+    → InTime w left c n rest st
+    → (s : Framer) → sideOf w c ≡ side s good → Stage a s n rest
+    → ticks w st ≤ length (toCome s rest) → Conserved a w c st s rest left
 unfolding lineOf ticks after
 conserved w (over {n = n}) s e g l = record { last = s; since = n; there = e; stage = g; whole = refl }
 conserved w {left} (still {c = c} {rest = rest} {e = x} {st = st} r k i) s e g l =
     let z = ap ticksBy r in
-    skip w c x st s s rest rest left z refl (conserved w i s (k ∙ e) g (omega (arith, skip-ticks w x st z)))
+    skip w c x st s s rest rest left z refl
+    (conserved w i s (k ∙ e) g (omega (arith, skip-ticks w x st z)))
 conserved w {left} (writes {c = c} {v = v} {rest = rest} {st = st} f i) s e g l =
     let m = moves g (sym (ap (λ (x : SenderSide). x .sender .shared .full) e) ∙ f) in
     let z = write-no-tick w v in
     skip w c (DataWrite (number w) v) st s (filledWith s v) (v ∷ rest) rest left z (m .0)
-    (conserved w i (filledWith s v) (write-side w c v ∙ ap (λ (x : SenderSide). side (filledWith (x .sender) v) (x .heeds)) e) (m .1)
+    (conserved w i (filledWith s v)
+    (write-side w c v ∙ ap (λ (x : SenderSide). side (filledWith (x .sender) v) (x .heeds)) e)
+    (m .1)
     (omega (arith, ap length (m .0), skip-ticks w (DataWrite (number w) v) st z)))
 conserved w {left} (next-frame {c = c} {v = v} {st = st} f i) s e g l =
     let m = later v g (sym (ap (λ (x : SenderSide). x .sender .shared .latch) e) ∙ f) in
     let z = write-no-tick w v in
     skip w c (DataWrite (number w) v) st s (filledWith s v) [] [] left z (m .0)
-    (conserved w i (filledWith s v) (write-side w c v ∙ ap (λ (x : SenderSide). side (filledWith (x .sender) v) (x .heeds)) e) (m .1)
+    (conserved w i (filledWith s v)
+    (write-side w c v ∙ ap (λ (x : SenderSide). side (filledWith (x .sender) v) (x .heeds)) e)
+    (m .1)
     (omega (arith, ap length (m .0), skip-ticks w (DataWrite (number w) v) st z)))
 conserved w {left} (ticking {c = c} {n = n} {rest = rest} {st = st} f i) s e g l =
     let o = rw (tick-counts w) at l in
@@ -95,38 +109,52 @@ conserved w {left} (ticking {c = c} {n = n} {rest = rest} {st = st} f i) s e g l
     let timely = ap (λ (x : SenderSide). inTime (x .sender .shared .full) n rest) (sym e) ∙ f in
     let t = takes g timely (omega arith) in
     let d = happens c (Transmit (number w)) .chip in
-    let same : tickedOf w c ≡ tickSdlc come.good s = ap (λ (x : SenderSide). tickSdlc come.good (x .sender)) e in
+    let same : tickedOf w c ≡ tickSdlc come.good s =
+    ap (λ (x : SenderSide). tickSdlc come.good (x .sender)) e in
     let y : sideOf w d ≡ side (t .next) good =
     tick-side w c h ∙ ap (λ (x : Framed). side (x .framer) good) (same ∙ t .ticks) in
-    let q : sinceAfter (s .shared .full) (t .next .shared .full) n ≡ sinceAfter (fullOf w c) (fullOf w d) n =
+    let q : sinceAfter (s .shared .full) (t .next .shared .full) n
+    ≡ sinceAfter (fullOf w c) (fullOf w d) n =
     ap₂ (λ (x y : SenderSide). sinceAfter (x .sender .shared .full) (y .sender .shared .full) n)
     (sym e) (sym y) in
-    ticks-on w c st s (t .next) (t .sent) rest left h (ap (λ (x : Framed). x .bit) (same ∙ t .ticks)) (t .head)
+    ticks-on w c st s (t .next) (t .sent) rest left h
+    (ap (λ (x : Framed). x .bit) (same ∙ t .ticks)) (t .head)
     (conserved w i (t .next) y (rw q at (t .stage)) (omega (arith, ap length (t .head))))
 
 -- Demand 3
 
 -- what was sent and what is to come are the frame
-pub frame-kept : (w : Which) (c : Chip) (p v : ℕ) (vs left : List ℕ) (st : List Event) → Start w c p → InTime w left c (p - 1) (v ∷ vs) st
+pub frame-kept : (w : Which) (c : Chip) (p v : ℕ) (vs left : List ℕ) (st : List Event) → Start w c p
+    → InTime w left c (p - 1) (v ∷ vs) st
     → p + ticks w st ≤ length (frame (v ∷ vs))
-    → (k : Conserved false w c st (started p (chan w c .sender .shared .buffer)) (v ∷ vs) left) × (flagHead p ++ (lineOf w c st ++ toCome (k .last) left) ≡ frame (v ∷ vs))
+    → (k : Conserved false w c st (started p (chan w c .sender .shared .buffer)) (v ∷ vs) left)
+    × (flagHead p ++ (lineOf w c st ++ toCome (k .last) left) ≡ frame (v ∷ vs))
 frame-kept w c p v vs left st s i n =
     let b = chan w c .sender .shared .buffer in
     let x = started p b in
     let a = at-start p b (v ∷ vs) (s .some) (s .inside) in
     let k = conserved w i x (start-side w c p s) (start-stage p b v vs (s .some) (s .inside))
-    (omega (arith, head-length p (s .inside), length-append (flagHead p) (toCome x (v ∷ vs)), ap length a)) in
+    (omega (
+      arith,
+      head-length p (s .inside),
+      length-append (flagHead p) (toCome x (v ∷ vs)),
+      ap length a,
+    )) in
     (k, ap (λ (l : List Bool). flagHead p ++ l) (k .whole) ∙ a)
 
-pub sent-length : (w : Which) (c : Chip) (p : ℕ) (st : List Event) → p ≤ 8 → length (flagHead p ++ lineOf w c st) ≡ p + ticks w st
-sent-length w c p st l = omega (arith, length-append (flagHead p) (lineOf w c st), head-length p l, line-length w c st)
+pub sent-length : (w : Which) (c : Chip) (p : ℕ) (st : List Event) → p ≤ 8
+    → length (flagHead p ++ lineOf w c st) ≡ p + ticks w st
+sent-length w c p st l =
+    omega (arith, length-append (flagHead p) (lineOf w c st), head-length p l, line-length w c st)
 
 pub frame-begun : FrameBegun
 frame-begun w c p v vs left st s i n =
     let k = frame-kept w c p v vs left st s i (omega (arith, ticks-are (v ∷ vs))) in
     let sent = flagHead p ++ lineOf w c st in
-    sym (take-at sent (toCome (k .0 .last) left) (p + ticks w st) (sent-length w c p st (s .inside)))
-    ∙ ap (take (p + ticks w st)) (append-assoc (flagHead p) (lineOf w c st) (toCome (k .0 .last) left) ∙ k .1)
+    sym (take-at sent (toCome (k .0 .last) left) (p + ticks w st)
+    (sent-length w c p st (s .inside)))
+    ∙ ap (take (p + ticks w st))
+    (append-assoc (flagHead p) (lineOf w c st) (toCome (k .0 .last) left) ∙ k .1)
 
 nothing : {X : Type 0} (xs : List X) → length xs ≡ 0 → xs ≡ []
 nothing [] e = refl
@@ -139,7 +167,9 @@ demand3 w c p v vs st s i n =
     let t = toCome (k .0 .last) [] in
     let sent = flagHead p ++ lineOf w c st in
     let q : sent ++ t ≡ frame (v ∷ vs) = append-assoc (flagHead p) (lineOf w c st) t ∙ k .1 in
-    let z : t ≡ [] = nothing t (omega (arith, ap length q, length-append sent t, sent-length w c p st (s .inside))) in
+    let z : t ≡ [] =
+    nothing t (omega
+    (arith, ap length q, length-append sent t, sent-length w c p st (s .inside))) in
     sym (ap (λ (l : List Bool). sent ++ l) z ∙ append-nil sent) ∙ q
 
 pub zeros-few : ZerosFew

@@ -21,8 +21,10 @@ use Rattle.timely.specs.Tests.{timely, in-time}
 use Rattle.sending.specs.Statement as stated
 
 -- demand 3 with the test
-pub demand3-tested : (w : Which) (c : Chip) (p v : ℕ) (vs : List ℕ) (st : List Event) → Start w c p → timely w c (p - 1) (v ∷ vs) st ≡ true
-    → p + ticks w st ≡ 8 * (length (v ∷ vs) + 2) + 16 + zerosOf (v ∷ vs) → flagHead p ++ lineOf w c st ≡ frame (v ∷ vs)
+pub demand3-tested : (w : Which) (c : Chip) (p v : ℕ) (vs : List ℕ) (st : List Event) → Start w c p
+    → timely w c (p - 1) (v ∷ vs) st ≡ true
+    → p + ticks w st ≡ 8 * (length (v ∷ vs) + 2) + 16 + zerosOf (v ∷ vs)
+    → flagHead p ++ lineOf w c st ≡ frame (v ∷ vs)
 demand3-tested w c p v vs st s t n = demand3 w c p v vs st s (in-time w c (p - 1) (v ∷ vs) st t) n
 
 -- one whose status is not latched at a tick while the latch is clear
@@ -39,8 +41,10 @@ unlatched : (l s : Bool) → l || not s ≡ true → l ≡ false → s ≡ false
 unlatched true s t e = void (sym e)
 unlatched false s t e = not-true s t
 
-one-seen : (w : Which) (c : Chip) (e : Event) (st : List Event) (r : Role) → View w e r → role w e ≡ r → seeing w c e r ≡ true → Watched w (happens c e .chip) st → Watched w c (e ∷ st)
-one-seen w c _ st Ticks its-tick q a f = stated.ticking (unlatched (latchOf w c) (statusLatched w c) a) f
+one-seen : (w : Which) (c : Chip) (e : Event) (st : List Event) (r : Role) → View w e r
+    → role w e ≡ r → seeing w c e r ≡ true → Watched w (happens c e .chip) st → Watched w c (e ∷ st)
+one-seen w c _ st Ticks its-tick q a f =
+    stated.ticking (unlatched (latchOf w c) (statusLatched w c) a) f
 one-seen w c _ st (Writes b) its-write q a f = stated.writes f
 one-seen w c e st Else other q a f = stated.still q (quiet-keeps w c e a) f
 
@@ -49,5 +53,7 @@ unfolding watching
 watched-of w c [] t = stated.ended
 watched-of w c (e ∷ st) t =
     let r = role w e in
-    one-seen w c e st r (view w e) refl (both-left (seeing w c e r) (watching w (happens c e .chip) st) t)
-    (watched-of w (happens c e .chip) st (both-right (seeing w c e r) (watching w (happens c e .chip) st) t))
+    one-seen w c e st r (view w e) refl
+    (both-left (seeing w c e r) (watching w (happens c e .chip) st) t)
+    (watched-of w (happens c e .chip) st
+    (both-right (seeing w c e r) (watching w (happens c e .chip) st) t))

@@ -16,7 +16,8 @@ use Rattle.receiver.specs.declared.Receiving.{Receiving}
 use Rattle.settings.specs.declared.Registers.{Registers}
 use Rattle.settings.specs.declared.Lines.{Lines}
 
--- the registers as written, and one of them written anew; chosen: since the last reset a WR4 has chosen a mode
+-- the registers as written, and one of them written anew; chosen: since the last reset a WR4 has
+-- chosen a mode
 abbrev pub registers : ℕ → ℕ → ℕ → ℕ → ℕ → ℕ → ℕ → Bool → Registers
 registers a b c d e f g m =
     record { wr1 = a; wr2 = b; wr3 = c; wr4 = d; wr5 = e; wr6 = f; wr7 = g; chosen = m }
@@ -59,8 +60,8 @@ commandIn v = v / 8 % 8
 abbrev pub presetIn : ℕ → ℕ
 presetIn v = v / 64
 
--- "WR1: D0 external, D1 transmit interrupt; D2 status affects vector (B); D4-3 receive: 0 off, 1 first,
--- 2 all with parity special, 3 all."
+-- "WR1: D0 external, D1 transmit interrupt; D2 status affects vector (B); D4-3 receive: 0 off, 1
+-- first, 2 all with parity special, 3 all."
 abbrev pub externalOn : ℕ → Bool
 externalOn wr1 = odd wr1
 
@@ -80,8 +81,8 @@ entersHunt wr3 = odd (wr3 / 16)
 abbrev pub autoEnables : Registers → Bool
 autoEnables r = odd (r .wr3 / 32)
 
--- "WR4: D0 parity, D1 even, D3-2 stop bits 01 one, 11 two, 00 synchronous; D5-4 10 SDLC." 02, P3, and the
--- chip maker's manual: D5-4 00 Monosync, 01 Bisync
+-- "WR4: D0 parity, D1 even, D3-2 stop bits 01 one, 11 two, 00 synchronous; D5-4 10 SDLC." 02, P3,
+-- and the chip maker's manual: D5-4 00 Monosync, 01 Bisync
 abbrev pub stopField : ℕ → ℕ
 stopField wr4 = wr4 / 4 % 4
 
@@ -99,15 +100,16 @@ modeOf wr4 =
 abbrev pub modeIn : Registers → Mode
 modeIn r = if r .chosen then modeOf (r .wr4) else NoMode
 
--- refusal 3: "a WR4 write with D7-6 not 00, or D3-2 = 10, or D3-2 = 00 and D5-4" external sync; 02, P3:
--- "3 no longer for these two at clock factor 1; external sync, and a higher factor in either, keep it"
+-- refusal 3: "a WR4 write with D7-6 not 00, or D3-2 = 10, or D3-2 = 00 and D5-4" external sync; 02,
+-- P3: "3 no longer for these two at clock factor 1; external sync, and a higher factor in either,
+-- keep it"
 unfoldable pub notBuilt : ℕ → Bool
 notBuilt wr4 =
     not (eqb (wr4 / 64) 0)
     || (eqb (stopField wr4) 2 || (eqb (stopField wr4) 0 && eqb (synchronousField wr4) 3))
 
--- 02, P3: "Monosync sends WR6 and matches WR7; Bisync uses WR6 then WR7 for both"; "WR5 D2 = 1 chooses
--- x^16+x^15+x^2+1"
+-- 02, P3: "Monosync sends WR6 and matches WR7; Bisync uses WR6 then WR7 for both"; "WR5 D2 = 1
+-- chooses x^16+x^15+x^2+1"
 abbrev pub syncsIn : Registers → Syncs
 syncsIn r = syncs (eqb (synchronousField (r .wr4)) 1) (r .wr6) (r .wr7)
 
@@ -131,11 +133,15 @@ formatOf r field =
 abbrev pub sends : Registers → Lines → Bool
 sends r l = odd (r .wr5 / 8) && (not (autoEnables r) || l .cts)
 
+-- "WR5: .. D4 break"
+abbrev pub breaks : ℕ → Bool
+breaks wr5 = odd (wr5 / 16)
+
 -- "WR5: D0 Tx check included, D3 on, D4 break, D6-5 length."
 unfoldable pub sendingOf : Registers → Lines → Sending
 sendingOf r l = record {
   mode = modeIn r;
-  broken = odd (r .wr5 / 16);
+  broken = breaks (r .wr5);
   framing = record { on = sends r l; included = odd (r .wr5) };
   typing = record {
     on = sends r l;
@@ -145,8 +151,8 @@ sendingOf r l = record {
   syncing = syncing (sends r l) (odd (r .wr5)) (polynomialIn r) (syncsIn r);
 }
 
--- 01, Receiving: "On means WR3 D0 and, with auto enables, DCD." "WR6: address." 02, P3: "WR3 D1 keeps
--- leading sync characters out of the queue"; a character enters the check "if WR3 D3 is set"
+-- 01, Receiving: "On means WR3 D0 and, with auto enables, DCD." "WR6: address." 02, P3: "WR3 D1
+-- keeps leading sync characters out of the queue"; a character enters the check "if WR3 D3 is set"
 unfoldable pub receivingOf : Registers → Lines → Receiving
 receivingOf r l = record {
   mode = modeIn r;

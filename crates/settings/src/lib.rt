@@ -11,7 +11,7 @@ use sdlc::Addressing;
 use sdlc::Framing;
 use sender::Sending;
 ghost use mathlib.Core.Path.{_≡_};
-ghost use Rattle.settings.specs.Settings.{pointerIn, commandIn, presetIn, externalOn, transmitOn, statusAffects, receiveMode, entersHunt};
+ghost use Rattle.settings.specs.Settings.{pointerIn, commandIn, presetIn, externalOn, transmitOn, statusAffects, receiveMode, entersHunt, breaks};
 ghost use Rattle.settings.specs.Settings.{modeOf, modeIn, syncsIn, polynomialIn, notBuilt};
 ghost use Rattle.settings.specs.Settings.{lengthOf, stopsOf, autoEnables, formatOf, sends, sendingOf, receivingOf};
 
@@ -87,6 +87,13 @@ pub fn enters_hunt(wr3: u8) -> bool
     ensures { λ r. ⌜ r ≡ entersHunt wr3 ⌝ }
 {
     wr3 / 16 % 2 == 1
+}
+
+// WR5's break.
+pub fn breaks(wr5: u8) -> bool
+    ensures { λ r. ⌜ r ≡ breaks wr5 ⌝ }
+{
+    wr5 / 16 % 2 == 1
 }
 
 // The mode that this WR4 chooses.

@@ -1,5 +1,5 @@
--- 02, P1: short characters. With length 00 an asynchronous byte's shape says how many of its low bits
--- are sent. Assumes nothing.
+-- 02, P1: short characters. With length 00 an asynchronous byte's shape says how many of its low
+-- bits are sent. Assumes nothing.
 use mathlib.Core.Bool.{Bool}
 use mathlib.Core.List.{List, [], _∷_}
 use Prim.Native.Nat.{ℕ, _/_, _^_}

@@ -10,8 +10,8 @@ use Rattle.shared.specs.declared.Shared.{Shared}
 abbrev pub shared : ℕ → Bool → Bool → ℕ → Shared
 shared b f l c = record { buffer = b; full = f; latch = l; check = c }
 
--- 01, Registers: "A channel reset .. empties buffer and queue, .. sets D6, .. presets both checks to
--- ones"
+-- 01, Registers: "A channel reset .. empties buffer and queue, .. sets D6, .. presets both checks
+-- to ones"
 abbrev pub sharedAtReset : Shared
 sharedAtReset = shared 0 false true ones
 

@@ -65,8 +65,8 @@ fourTable-at n h =
 
 -- A stamp's parts
 
--- what a stamp says of the byte behind this run: the bits sent stand first, up to four of no account
--- behind them, they are so many, and this run is left
+-- what a stamp says of the byte behind this run: the bits sent stand first, up to four of no
+-- account behind them, they are so many, and this run is left
 pub record Says (run v e : ℕ) : Type 0 where
   pub over : List Bool
   pub few : length over ≤ 4
@@ -140,7 +140,8 @@ module _ (run v : ℕ) (few : run < 5) where
   stamp-says = record {
     over = surplus;
     few = omega (arith, lowBits-length (4 - z) (fromLow (drop 8 bits) / 2 ^ z));
-    sent = sym (append-assoc (lowBits 4 (e % 16)) (lowBits 4 (e / 16 % 16)) (lowBits 4 (e / 2048 % 4)))
+    sent =
+        sym (append-assoc (lowBits 4 (e % 16)) (lowBits 4 (e / 16 % 16)) (lowBits 4 (e / 2048 % 4)))
         ∙ ap₂ (λ (xs ys : List Bool). xs ++ ys) stamp-eight stamp-others
         ∙ sym (append-assoc (take 8 bits) (drop 8 bits) surplus)
         ∙ ap (λ (l : List Bool). l ++ surplus) (take-append-drop 8 bits);

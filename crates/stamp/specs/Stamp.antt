@@ -1,4 +1,5 @@
--- 02, P6: "for each run of ones (0 to 4) and byte what is sent and which run is left". Assumes nothing.
+-- 02, P6: "for each run of ones (0 to 4) and byte what is sent and which run is left". Assumes
+-- nothing.
 use mathlib.Core.Bool.{Bool}
 use mathlib.Core.List.{List, [], _∷_, _++_}
 use Prim.Native.Nat.{ℕ, _+_, _*_, _/_, _%_}
@@ -11,15 +12,15 @@ use Rattle.table.specs.Entries.{entries}
 abbrev pub sentAs : ℕ → ℕ → List Bool
 sentAs run v = stuff run (lowBits 8 v)
 
--- A stamp is one number. From its low end on: the eight bits that are sent first, the run that is left
--- (three places), the bits behind the eighth (two), and how many zeros were inserted.
+-- A stamp is one number. From its low end on: the eight bits that are sent first, the run that is
+-- left (three places), the bits behind the eighth (two), and how many zeros were inserted.
 abbrev pub stampOf : ℕ → ℕ → ℕ
 stampOf run v =
     fromLow (take 8 (sentAs run v)) + 256 * runOver run (lowBits 8 v)
     + 2048 * fromLow (drop 8 (sentAs run v)) + 8192 * zeros run (lowBits 8 v)
 
--- its parts again: the twelve bits that are put down for it, of which those behind the ones sent are of
--- no account, how many count, and the run that is left
+-- its parts again: the twelve bits that are put down for it, of which those behind the ones sent
+-- are of no account, how many count, and the run that is left
 abbrev pub twelve : ℕ → List Bool
 twelve e = lowBits 4 (e % 16) ++ (lowBits 4 (e / 16 % 16) ++ lowBits 4 (e / 2048 % 4))
 

@@ -1,5 +1,5 @@
--- A start, computed from a hard reset: behind a mark, the check preset and the latch cleared within the flag. Then the
--- theorem, said of it. Assumes nothing.
+-- A start, computed from a hard reset: behind a mark, the check preset and the latch cleared within
+-- the flag. Then the theorem, said of it. Assumes nothing.
 use mathlib.Core.Path.{_≡_, refl}
 use mathlib.Core.Bool.{true, false}
 use mathlib.Core.List.{List, [], _∷_}
@@ -18,7 +18,9 @@ use Rattle.starts.specs.Flag.{where-starts}
 
 -- WR4 for SDLC, WR5 with the sender on and the check included: the sender idles
 abbrev pub idle : Chip
-idle = after hardReset (ControlWrite 0 4 ∷ ControlWrite 0 0b100000 ∷ ControlWrite 0 5 ∷ ControlWrite 0 0b1001 ∷ [])
+idle =
+    after hardReset
+    (ControlWrite 0 4 ∷ ControlWrite 0 0b100000 ∷ ControlWrite 0 5 ∷ ControlWrite 0 0b1001 ∷ [])
 
 abbrev pub along : List Event
 along = ControlWrite 0 0b10000000 ∷ ControlWrite 0 0b11000000 ∷ Transmit 0 ∷ Transmit 0 ∷ []
@@ -34,10 +36,12 @@ pub record Examples : Type 0 where
 pub examples : Examples
 unfolding computing after
 examples = record {
-  begins = record { air = record { mode = refl; no-break = refl; on = refl }; paid = refl; next = refl };
+  begins =
+      record { air = record { mode = refl; no-break = refl; on = refl }; paid = refl; next = refl };
   goes-on =
       kept refl refl refl (record { mode = refl; no-break = refl; on = refl })
-      (kept refl refl refl (record { mode = refl; no-break = refl; on = refl }) (ticking (ticking ended)));
+      (kept refl refl refl (record { mode = refl; no-break = refl; on = refl })
+      (ticking (ticking ended)));
   included = refl;
   empty = refl;
   preset = refl;
@@ -51,4 +55,5 @@ unfolding ticks
 three-sent = where-starts A idle along (examples .begins) (examples .goes-on) (omega arith)
 
 pub starts : Start A (after idle (Transmit 0 ∷ along)) 3
-starts = three-sent .start (examples .included) (examples .empty) (examples .preset) (examples .cleared)
+starts =
+    three-sent .start (examples .included) (examples .empty) (examples .preset) (examples .cleared)

@@ -1,6 +1,7 @@
--- Where demand 3's start comes from. Demand 3: "Start during a flag with the SDLC sender on .., no break since it
--- began". 01, Sending: "After mark or abort: flag. After flag: byte if the buffer is full, else flag. After byte: byte
--- if full; else, if the latch is clear and WR5 D0 set, check, otherwise flag .. After check: flag." Assumes nothing.
+-- Where demand 3's start comes from. Demand 3: "Start during a flag with the SDLC sender on .., no
+-- break since it began". 01, Sending: "After mark or abort: flag. After flag: byte if the buffer is
+-- full, else flag. After byte: byte if full; else, if the latch is clear and WR5 D0 set, check,
+-- otherwise flag .. After check: flag." Assumes nothing.
 use mathlib.Core.Path.{_≡_}
 use mathlib.Core.Bool.{Bool, true, false, not, _&&_}
 use mathlib.Core.List.{List, [], _∷_}
@@ -37,21 +38,24 @@ flagNext included k (Abort n) = eqb n 0
 pub record Begins (w : Which) (c : Chip) : Type 0 where
   pub air : OnAir w c
   pub paid : chan w c .sender .insertion .owed ≡ false
-  pub next : flagNext (sideOf w c .heeds .framing .included) (chan w c .sender .shared) (chan w c .sender .unit) ≡ true
+  pub next : flagNext (sideOf w c .heeds .framing .included) (chan w c .sender .shared)
+      (chan w c .sender .unit) ≡ true
 
--- and the flag goes on: ticks, and whatever leaves the unit and its count of ones as they are, the sender on and no
--- break. The host may write, preset the check, clear the latch and include the check
+-- and the flag goes on: ticks, and whatever leaves the unit and its count of ones as they are, the
+-- sender on and no break. The host may write, preset the check, clear the latch and include the
+-- check
 pub data GoesOn (w : Which) : Chip → List Event → Type 0 where
   ended : {c : Chip} → GoesOn w c []
   kept : {c : Chip} {e : Event} {st : List Event} → isTick w e ≡ false
       → chan w (happens c e .chip) .sender .unit ≡ chan w c .sender .unit
-      → chan w (happens c e .chip) .sender .insertion ≡ chan w c .sender .insertion → OnAir w (happens c e .chip)
+      → chan w (happens c e .chip) .sender .insertion ≡ chan w c .sender .insertion
+      → OnAir w (happens c e .chip)
       → GoesOn w (happens c e .chip) st → GoesOn w c (e ∷ st)
   ticking : {c : Chip} {st : List Event} → GoesOn w (happens c (Transmit (number w)) .chip) st
       → GoesOn w c (Transmit (number w) ∷ st)
 
--- p ticks from there, the first p bits of a flag are sent, and with the check included and preset, the latch cleared
--- and the buffer empty it is demand 3's start
+-- p ticks from there, the first p bits of a flag are sent, and with the check included and preset,
+-- the latch cleared and the buffer empty it is demand 3's start
 pub record FlagSent (w : Which) (c : Chip) (st : List Event) (p : ℕ) : Type 0 where
   pub line : lineOf w c st ≡ flagHead p
   pub start : sideOf w (after c st) .heeds .framing .included ≡ true → fullOf w (after c st) ≡ false

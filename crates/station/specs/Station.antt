@@ -25,7 +25,8 @@ noteSent t c = record { told = t; chip = c }
 -- refusal 6; else the frame's inserted zeros and its ticks, and the chip that sent it
 unfoldable pub sendOf : Chip → List ℕ → Sent
 sendOf c note =
-    if noteFits (length note) then noteSent (told.Gone (zerosOf note) (ticksOf note)) (sentBy c note)
+    if noteFits (length note) then noteSent (told.Gone (zerosOf note) (ticksOf note))
+    (sentBy c note)
     else noteSent (told.Refused NoteLength) c
 
 -- A list

@@ -10,6 +10,8 @@ use flags::Between;
 use line::note_fits;
 use notes::Scanned;
 use notes::scan;
+ghost use Rattle.station.specs.Answers.{toldNumber, toldZeros, toldTicks};
+ghost use Rattle.station.specs.Answers.{listedNumber, listedNotes, listedTicks};
 ghost use mathlib.Core.Path.{_≡_};
 ghost use Rattle.notes.specs.NoteList.{readList};
 ghost use Rattle.report.specs.Report.{reportOf, rowsIn};
@@ -22,6 +24,38 @@ pub enum Told {
     Refused(Refusal),
 }
 
+impl Told {
+    // The paper's number of the refusal, 0 for none.
+    pub fn number(self) -> u8
+        ensures { λ r. ⌜ r ≡ toldNumber self ⌝ }
+    {
+        match self {
+            Told::Gone { zeros, ticks } => 0,
+            Told::Refused(k) => k.number(),
+        }
+    }
+
+    // The zeros inserted, 0 for a refusal.
+    pub fn zeros(self) -> usize
+        ensures { λ r. ⌜ r ≡ toldZeros self ⌝ }
+    {
+        match self {
+            Told::Gone { zeros, ticks } => zeros,
+            Told::Refused(k) => 0,
+        }
+    }
+
+    // Ticks with both flags, 0 for a refusal.
+    pub fn ticks(self) -> usize
+        ensures { λ r. ⌜ r ≡ toldTicks self ⌝ }
+    {
+        match self {
+            Told::Gone { zeros, ticks } => ticks,
+            Told::Refused(k) => 0,
+        }
+    }
+}
+
 // A note was sent, and the chip after it.
 pub struct Sent {
     pub told: Told,
@@ -32,6 +66,38 @@ pub struct Sent {
 pub enum Listed {
     All { notes: usize, ticks: usize },
     Refused(Refusal),
+}
+
+impl Listed {
+    // The paper's number of the refusal, 0 for none.
+    pub fn number(self) -> u8
+        ensures { λ r. ⌜ r ≡ listedNumber self ⌝ }
+    {
+        match self {
+            Listed::All { notes, ticks } => 0,
+            Listed::Refused(k) => k.number(),
+        }
+    }
+
+    // How many notes, 0 for a refusal.
+    pub fn notes(self) -> usize
+        ensures { λ r. ⌜ r ≡ listedNotes self ⌝ }
+    {
+        match self {
+            Listed::All { notes, ticks } => notes,
+            Listed::Refused(k) => 0,
+        }
+    }
+
+    // Ticks in all, 0 for a refusal.
+    pub fn ticks(self) -> usize
+        ensures { λ r. ⌜ r ≡ listedTicks self ⌝ }
+    {
+        match self {
+            Listed::All { notes, ticks } => ticks,
+            Listed::Refused(k) => 0,
+        }
+    }
 }
 
 // A list was sent, and the chip after it.

@@ -17,7 +17,8 @@ set ch wr v = ControlWrite ch wr ∷ ControlWrite ch v ∷ []
 
 -- what a control read of this register answers behind a story, from a hard reset
 abbrev pub reads : ℕ → ℕ → List Event → Answer
-reads ch rr st = happens (after hardReset (st ++ (ControlWrite ch rr ∷ []))) (ControlRead ch) .answer
+reads ch rr st =
+    happens (after hardReset (st ++ (ControlWrite ch rr ∷ []))) (ControlRead ch) .answer
 
 -- WR4 = FF is refused; the byte behind it is WR4 again: SDLC
 abbrev pub refusedTwice : List Event

@@ -1,5 +1,5 @@
--- 02, P5: the clerk's stories, computed. "A data read should say 'nothing waits' apart from a byte 0."
--- Each is told by the chip and by no wrong one of must-fail. Assumes nothing.
+-- 02, P5: the clerk's stories, computed. "A data read should say 'nothing waits' apart from a byte
+-- 0." Each is told by the chip and by no wrong one of must-fail. Assumes nothing.
 use mathlib.Core.Path.{_≡_, refl}
 use mathlib.Core.Bool.{Bool, true, false}
 use mathlib.Core.List.{List, [], _∷_, _++_}
@@ -48,10 +48,12 @@ pub record Told : Type 0 where
   -- "A refusal changes nothing": behind an empty look the first character still asks, RR0 D1
   pub armed : reads 0 0 (clerk ++ (DataRead 0 ∷ comes 0x41)) ≡ Gave 0b1000111
   -- the pointer stays at RR1, which shows all sent
-  pub pointer : looks (after hardReset (clerk ++ (ControlWrite 0 1 ∷ DataRead 0 ∷ []))) (ControlRead 0 ∷ [])
+  pub pointer : looks (after hardReset (clerk ++ (ControlWrite 0 1 ∷ DataRead 0 ∷ [])))
+      (ControlRead 0 ∷ [])
       ≡ Gave 0b1 ∷ []
   -- the overrun latch stays: four characters came, three were read, and one look was empty
-  pub latch : reads 0 1 (clerk ++ (fourZeros ++ (DataRead 0 ∷ DataRead 0 ∷ DataRead 0 ∷ DataRead 0 ∷ [])))
+  pub latch : reads 0 1
+      (clerk ++ (fourZeros ++ (DataRead 0 ∷ DataRead 0 ∷ DataRead 0 ∷ DataRead 0 ∷ [])))
       ≡ Gave 0b100001
 
 pub told : Told

@@ -1,6 +1,7 @@
--- What an event does to a chip. Stories, and with them the theorems of the demands, speak of the chip by
--- this name alone, so that a wrong chip can be put in its place: an edit of must-fail does that in the
--- one line, and the names that wrong chips are made of are brought here for it. Assumes nothing.
+-- What an event does to a chip. Stories, and with them the theorems of the demands, speak of the
+-- chip by this name alone, so that a wrong chip can be put in its place: an edit of must-fail does
+-- that in the one line, and the names that wrong chips are made of are brought here for it. Assumes
+-- nothing.
 use mathlib.Core.Bool.{Bool, true, false, not, _&&_, _||_}
 use mathlib.Core.List.{List, [], _∷_, _++_, map}
 use Prim.Native.Nat.{ℕ, _+_, _-_, _*_, _/_, _%_}
@@ -29,14 +30,16 @@ use Rattle.channel.specs.declared.Answer.the-variants.{Done, Gave, Refused}
 use Rattle.channel.specs.declared.Channel.{Channel}
 use Rattle.status.specs.Status.{status, quietLive}
 use Rattle.channel.specs.Channel.{withRegisters, withSender, withReceiver, withQueue, withStatus}
-use Rattle.channel.specs.Channel.{withLines, withPointer, withArmed, withTransmit, withService, settled}
+use Rattle.channel.specs.Channel.{withLines, withPointer, withArmed, withTransmit, withService}
+use Rattle.channel.specs.Channel.{settled}
 use Rattle.channel.specs.Answer.{answerNumber, answerValue}
 use Rattle.channel.specs.Events.{dataWritten}
 use Rattle.chip.specs.declared.Chip.{Chip}
 use Rattle.chip.specs.declared.Outcome.{Outcome}
 use Rattle.chip.specs.Interrupts.{chip}
 use Rattle.chip.specs.Chip.{outcome}
-use Rattle.chip.specs.Event.{Event, HardReset, ControlWrite, ControlRead, DataWrite, DataRead, Transmit}
+use Rattle.chip.specs.Event.{Event, HardReset, ControlWrite, ControlRead, DataWrite, DataRead}
+use Rattle.chip.specs.Event.{Transmit}
 use Rattle.chip.specs.Event.{Receive, SetLines, Acknowledge, Reti, step}
 
 abbrev pub happens : Chip → Event → Outcome

@@ -1,5 +1,5 @@
--- What is seen of a channel's receiver in a story: the bits that it hears, what the reads answer, the entries that they take, and RR1.
--- Assumes nothing.
+-- What is seen of a channel's receiver in a story: the bits that it hears, what the reads answer,
+-- the entries that they take, and RR1. Assumes nothing.
 use mathlib.Core.Bool.{Bool, true, false, _&&_}
 use mathlib.Core.List.{List, [], _∷_, _++_}
 use Prim.Native.Nat.{ℕ}
@@ -12,10 +12,12 @@ use Rattle.channel.specs.declared.Answer.{Answer}
 use Rattle.channel.specs.declared.Answer.the-variants.{Done, Gave, Refused}
 use Rattle.chip.specs.declared.Chip.{Chip}
 use Rattle.chip.specs.Chip.{onLevel}
-use Rattle.chip.specs.Event.{Event, HardReset, ControlWrite, ControlRead, DataWrite, DataRead, Transmit, Receive, SetLines, Acknowledge, Reti}
+use Rattle.chip.specs.Event.{Event, HardReset, ControlWrite, ControlRead, DataWrite, DataRead}
+use Rattle.chip.specs.Event.{Transmit, Receive, SetLines, Acknowledge, Reti}
 use Rattle.stories.specs.Story.{Which, number, chan, happens}
 
--- What an event is to this receiver: a bit heard, a read, or anything else; what is refused is neither of the first two
+-- What an event is to this receiver: a bit heard, a read, or anything else; what is refused is
+-- neither of the first two
 
 pub data Role : Type 0 where
   Hears : Bool → Role
@@ -32,7 +34,8 @@ role w (ControlRead ch) = Else
 role w (DataWrite ch v) = Else
 role w (DataRead ch) = if here w ch then Reads else Else
 role w (Transmit ch) = Else
-role w (Receive ch bit) = if here w ch then (if leb 2 bit then Else else Hears (onLevel bit)) else Else
+role w (Receive ch bit) =
+    if here w ch then (if leb 2 bit then Else else Hears (onLevel bit)) else Else
 role w (SetLines ch dcd cts) = Else
 role w Acknowledge = Else
 role w Reti = Else
@@ -48,7 +51,8 @@ unfoldable pub bitsOf : Which → List Event → List Bool
 bitsOf w [] = []
 bitsOf w (e ∷ st) = bitIn (role w e) ++ bitsOf w st
 
--- "gives back": what the reads answered (a refused one gave nothing), and the entries that they took
+-- "gives back": what the reads answered (a refused one gave nothing), and the entries that they
+-- took
 
 abbrev pub isRead : Role → Bool
 isRead (Hears b) = false
@@ -66,17 +70,20 @@ valueIf false a = []
 
 unfoldable pub valuesOf : Which → Chip → List Event → List ℕ
 valuesOf w c [] = []
-valuesOf w c (e ∷ st) = valueIf (isRead (role w e)) (happens c e .answer) ++ valuesOf w (happens c e .chip) st
+valuesOf w c (e ∷ st) =
+    valueIf (isRead (role w e)) (happens c e .answer) ++ valuesOf w (happens c e .chip) st
 
 unfoldable pub tookOf : Which → Chip → List Event → List Entry
 tookOf w c [] = []
-tookOf w c (e ∷ st) = entryIf (taking w c (role w e)) (oldest (chan w c .queue)) ++ tookOf w (happens c e .chip) st
+tookOf w c (e ∷ st) =
+    entryIf (taking w c (role w e)) (oldest (chan w c .queue)) ++ tookOf w (happens c e .chip) st
 
 unfoldable pub bytesOf : List Entry → List ℕ
 bytesOf [] = []
 bytesOf (e ∷ es) = e .byte ∷ bytesOf es
 
--- RR1 with all sent, 011 and frame end: without D6, and with it, a bad check; and with all sent alone
+-- RR1 with all sent, 011 and frame end: without D6, and with it, a bad check; and with all sent
+-- alone
 abbrev pub goodEnd : ℕ
 goodEnd = 0b10000111
 

@@ -1,5 +1,6 @@
--- Stories of a receiver, computed: 01's marked example 4, "Frame 2 received: FF, 00, FF; the last ends, good", with other events behind every
--- bit, and the same with a bit flipped. Each is told by the chip and by no wrong one of must-fail. Assumes nothing.
+-- Stories of a receiver, computed: 01's marked example 4, "Frame 2 received: FF, 00, FF; the last
+-- ends, good", with other events behind every bit, and the same with a bit flipped. Each is told by
+-- the chip and by no wrong one of must-fail. Assumes nothing.
 use mathlib.Core.Path.{_≡_, refl}
 use mathlib.Core.Bool.{Bool, true, false}
 use mathlib.Core.List.{List, [], _∷_, _++_}
@@ -11,20 +12,25 @@ use Rattle.channel.specs.declared.Answer.the-variants.{Gave}
 use Rattle.chip.specs.Computing.{computing}
 use Rattle.chip.specs.declared.Chip.{Chip}
 use Rattle.chip.specs.Chip.{hardReset}
-use Rattle.chip.specs.Event.{Event, ControlWrite, ControlRead, DataWrite, DataRead, Transmit, Receive, SetLines, Acknowledge, Reti}
+use Rattle.chip.specs.Event.{Event, ControlWrite, ControlRead, DataWrite, DataRead, Transmit}
+use Rattle.chip.specs.Event.{Receive, SetLines, Acknowledge, Reti}
 use Rattle.stories.specs.Story.{Which, A, number, happens, after}
 use Rattle.stories.specs.Received.{bitsOf, valuesOf, goodEnd, badEnd, noEnd}
 
 -- from a hard reset: WR4 for SDLC, WR3 on
 abbrev pub listening : Which → Chip
-listening w = after hardReset (ControlWrite (number w) 4 ∷ ControlWrite (number w) 0b100000 ∷ ControlWrite (number w) 3 ∷ ControlWrite (number w) 0b1 ∷ [])
+listening w =
+    after hardReset
+    (ControlWrite (number w) 4 ∷ ControlWrite (number w) 0b100000 ∷ ControlWrite
+    (number w) 3 ∷ ControlWrite (number w) 0b1 ∷ [])
 
 -- each bit of a line, with the same events behind it
 unfoldable pub story : Which → List Event → List Bool → List Event
 story w noise [] = []
 story w noise (b ∷ bs) = Receive (number w) (oneIf b) ∷ (noise ++ story w noise bs)
 
--- the other channel's ticks, reads and reset, this sender's, status reads, lines, interrupts, and calls that are refused
+-- the other channel's ticks, reads and reset, this sender's, status reads, lines, interrupts, and
+-- calls that are refused
 abbrev pub noise : List Event
 noise =
     Receive 1 1 ∷ DataRead 0 ∷ ControlWrite 0 0b10001 ∷ ControlRead 0 ∷ DataWrite 0 3 ∷ Transmit 0 ∷ SetLines 0 1 1 ∷ DataRead 1 ∷ ControlWrite 1 0b11000
@@ -54,11 +60,13 @@ flippedLine = flagBits ++ (stuff 0 (false ∷ unflipped) ++ flagBits)
 abbrev pub twoFrames : List Event
 twoFrames =
     story A (DataRead 0 ∷ [])
-    (flagBits ++ (stuff 0 (contentOf (0xFF ∷ [])) ++ (flagBits ++ (stuff 0 (contentOf (0x00 ∷ [])) ++ flagBits))))
+    (flagBits ++ (stuff 0 (contentOf (0xFF ∷ []))
+    ++ (flagBits ++ (stuff 0 (contentOf (0x00 ∷ [])) ++ flagBits))))
 
 -- asynchronous, seven bits, odd parity: 41 with its parity bit, which is 1, and RR1
 abbrev pub sevenOdd : List Event
-sevenOdd = ControlWrite 0 4 ∷ ControlWrite 0 0b101 ∷ ControlWrite 0 3 ∷ ControlWrite 0 0b1000001 ∷ []
+sevenOdd =
+    ControlWrite 0 4 ∷ ControlWrite 0 0b101 ∷ ControlWrite 0 3 ∷ ControlWrite 0 0b1000001 ∷ []
 
 abbrev pub character : List Bool
 character = false ∷ (lowBits 7 0x41 ++ (true ∷ true ∷ []))
@@ -68,11 +76,13 @@ pub record Told : Type 0 where
   pub noisy-values : valuesOf A (listening A) noisy ≡ 0xFF ∷ 0x00 ∷ 0xFF ∷ []
   pub two-values : valuesOf A (listening A) twoFrames ≡ 0xFF ∷ 0x00 ∷ 0xFF ∷ 0x00 ∷ 0x78 ∷ 0xF0 ∷ []
   -- two ones and the parity bit are odd in number: no parity error, and all is sent
-  pub right-parity : happens (after (after hardReset sevenOdd) (story A [] character ++ (ControlWrite 0 1 ∷ [])))
+  pub right-parity : happens
+      (after (after hardReset sevenOdd) (story A [] character ++ (ControlWrite 0 1 ∷ [])))
       (ControlRead 0) .answer ≡ Gave noEnd
   -- RR1 shows the mark of the last one when the two before it are read
   pub mark : happens (after (listening A) named) (ControlRead 0) .answer ≡ Gave goodEnd
-  pub flipped-mark : happens (after (listening A) (story A [] flippedLine ++ nameLast)) (ControlRead 0) .answer ≡ Gave badEnd
+  pub flipped-mark : happens (after (listening A) (story A [] flippedLine ++ nameLast))
+      (ControlRead 0) .answer ≡ Gave badEnd
 
 pub told : Told
 unfolding computing bitsOf valuesOf story after

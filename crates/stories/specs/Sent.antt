@@ -1,4 +1,5 @@
--- What is seen of a channel's sender: the bits that its ticks put on the line in a story, how many they are, and RR0 D6. Assumes nothing.
+-- What is seen of a channel's sender: the bits that its ticks put on the line in a story, how many
+-- they are, and RR0 D6. Assumes nothing.
 use mathlib.Core.Bool.{Bool, true, false}
 use mathlib.Core.List.{List, [], _∷_, _++_}
 use Prim.Native.Nat.{ℕ, _+_, _/_}
@@ -10,10 +11,12 @@ use Rattle.channel.specs.declared.Answer.the-variants.{Done, Gave, Refused}
 use Rattle.channel.specs.Answer.{answerValue}
 use Rattle.chip.specs.declared.Chip.{Chip}
 use Rattle.chip.specs.Chip.{onLevel}
-use Rattle.chip.specs.Event.{Event, HardReset, ControlWrite, ControlRead, DataWrite, DataRead, Transmit, Receive, SetLines, Acknowledge, Reti}
+use Rattle.chip.specs.Event.{Event, HardReset, ControlWrite, ControlRead, DataWrite, DataRead}
+use Rattle.chip.specs.Event.{Transmit, Receive, SetLines, Acknowledge, Reti}
 use Rattle.stories.specs.Story.{Which, number, happens}
 
--- What an event is to this sender: a tick, a data write, or something else. A refused call is something else
+-- What an event is to this sender: a tick, a data write, or something else. A refused call is
+-- something else
 
 pub data Role : Type 0 where
   Ticks : Role

@@ -1,6 +1,6 @@
--- Laws of content by tables: by the right ones, where there is room for it and a flag, it is the note's
--- bits and its check's with their inserted zeros, once at least four cells more are stored behind it.
--- Assumes nothing.
+-- Laws of content by tables: by the right ones, where there is room for it and a flag, it is the
+-- note's bits and its check's with their inserted zeros, once at least four cells more are stored
+-- behind it. Assumes nothing.
 use mathlib.Core.Path.{_≡_, refl, sym, ap, _∙_}
 use mathlib.Core.Bool.{Bool}
 use mathlib.Core.List.{List, [], _∷_, _++_, append-assoc}
@@ -46,7 +46,8 @@ module _ (s : Plate) (v : ℕ) (vs : List ℕ) (ready : Ready s)
   wide : length (widthOf s (v ∷ vs))
       ≡ length (sentAs run v) + length (stuff (runOver run (lowBits 8 v)) (textBits 8 vs))
   wide =
-      ap length both ∙ length-append (sentAs run v) (stuff (runOver run (lowBits 8 v)) (textBits 8 vs))
+      ap length both
+      ∙ length-append (sentAs run v) (stuff (runOver run (lowBits 8 v)) (textBits 8 vs))
 
   -- a byte and a flag behind it have the room that is asked for a byte
   room : 12 ≤ length (s .buffer) - s .press .at
@@ -68,7 +69,8 @@ module _ (s : Plate) (v : ℕ) (vs : List ℕ) (ready : Ready s)
       let rest = widthOf put vs in
       byte-line s v ready room (rest ++ next) (omega (arith, length-append rest next))
       ∙ ap (λ (l : List Bool). sets (s .buffer) (s .press .at) (cells l))
-      (rw (byte-run s v ready room, both) (sym (append-assoc (sentAs run v) (stuff (runOver run (lowBits 8 v)) (textBits 8 vs)) next)))
+      (rw (byte-run s v ready room, both)
+      (sym (append-assoc (sentAs run v) (stuff (runOver run (lowBits 8 v)) (textBits 8 vs)) next)))
 
 width-none : (s : Plate) → widthOf s [] ≡ []
 unfolding textBits stuff
@@ -81,7 +83,8 @@ unfolding bytesStamped
 bytes-at s [] ready fits = rw (width-none s) (sym (add-zero (s .press .at)))
 bytes-at s (v ∷ vs) ready fits =
     let t = byteStamped stampTable fourTable s v in
-    bytes-at t vs (next-ready s v vs ready fits) (next-fits s v vs ready fits) ∙ next-width s v vs ready fits
+    bytes-at t vs (next-ready s v vs ready fits) (next-fits s v vs ready fits)
+    ∙ next-width s v vs ready fits
 
 bytes-size : (s : Plate) (vs : List ℕ) → Ready s
     → s .press .at + length (widthOf s vs) + 8 ≤ length (s .buffer)

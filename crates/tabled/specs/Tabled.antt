@@ -1,5 +1,5 @@
--- A note's content as it is put down a byte at a time over a buffer, by tables that are lent, whatever
--- they hold. Assumes nothing.
+-- A note's content as it is put down a byte at a time over a buffer, by tables that are lent,
+-- whatever they hold. Assumes nothing.
 use mathlib.Core.List.{List, [], _∷_}
 use Prim.Native.Nat.{ℕ}
 use Rattle.line.specs.Check.{ones}

@@ -34,8 +34,10 @@ decimal v =
     if ltb v 10 then digitOf v ∷ []
     else (if ltb v 100 then digitOf (v / 10) ∷ digitOf v ∷ []
     else (if ltb v 1000 then digitOf (v / 100) ∷ digitOf (v / 10) ∷ digitOf v ∷ []
-    else (if ltb v 10000 then digitOf (v / 1000) ∷ digitOf (v / 100) ∷ digitOf (v / 10) ∷ digitOf v ∷ []
-    else digitOf (v / 10000) ∷ digitOf (v / 1000) ∷ digitOf (v / 100) ∷ digitOf (v / 10) ∷ digitOf v ∷ [])))
+    else (if ltb v 10000 then digitOf (v / 1000) ∷ digitOf (v / 100) ∷ digitOf
+    (v / 10) ∷ digitOf v ∷ []
+    else digitOf (v / 10000) ∷ digitOf (v / 1000) ∷ digitOf (v / 100) ∷ digitOf
+    (v / 10) ∷ digitOf v ∷ [])))
 
 -- and the byte behind it
 abbrev pub numbered : Line → ℕ → ℕ → Line

@@ -15,8 +15,9 @@ use Rattle.sdlc.specs.Sending.{insertion, framer}
 use Rattle.chip.specs.Sound.{SoundChip}
 use Rattle.history.specs.Sound.{unit-sound}
 
--- "Start during a flag with the SDLC sender on .., buffer empty, check preset to ones and included, underrun latch cleared, no break since it
--- began": p of the flag's bits are sent. The last line is so of every chip that came from a reset by events: `start-of` below
+-- "Start during a flag with the SDLC sender on .., buffer empty, check preset to ones and included,
+-- underrun latch cleared, no break since it began": p of the flag's bits are sent. The last line is
+-- so of every chip that came from a reset by events: `start-of` below
 pub record Start (w : Which) (c : Chip) (p : ℕ) : Type 0 where
   pub some : 1 ≤ p
   pub inside : p ≤ 8
@@ -27,9 +28,12 @@ pub record Start (w : Which) (c : Chip) (p : ℕ) : Type 0 where
   pub settings : Good (sendingIn (chan w c))
   pub history : SoundUnit (chan w c .sender .unit) (chan w c .sender .insertion)
 
--- what the demand does not say, a chip has that came from a reset by events (`reset-sound` in Sound)
-pub start-of : (w : Which) (c : Chip) (p : ℕ) → SoundChip c → 1 ≤ p → p ≤ 8 → chan w c .sender .unit ≡ Flag (8 - p) → fullOf w c ≡ false
-    → chan w c .sender .shared .check ≡ ones → latchOf w c ≡ false → Good (sendingIn (chan w c)) → Start w c p
+-- what the demand does not say, a chip has that came from a reset by events (`reset-sound` in
+-- Sound)
+pub start-of : (w : Which) (c : Chip) (p : ℕ) → SoundChip c → 1 ≤ p → p ≤ 8
+    → chan w c .sender .unit ≡ Flag (8 - p) → fullOf w c ≡ false
+    → chan w c .sender .shared .check ≡ ones → latchOf w c ≡ false → Good (sendingIn (chan w c))
+    → Start w c p
 start-of w c p h some inside flag empty preset cleared settings = record {
   some = some;
   inside = inside;
@@ -42,7 +46,8 @@ start-of w c p h some inside flag empty preset cleared settings = record {
 }
 
 -- the demand's words are the state at the start
-pub start-side : (w : Which) (c : Chip) (p : ℕ) → Start w c p → sideOf w c ≡ side (started p (chan w c .sender .shared .buffer)) good
+pub start-side : (w : Which) (c : Chip) (p : ℕ) → Start w c p
+    → sideOf w c ≡ side (started p (chan w c .sender .shared .buffer)) good
 start-side w c p b =
     let x = chan w c .sender in
     let k = x .shared in

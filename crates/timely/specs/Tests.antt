@@ -1,4 +1,5 @@
--- In time, and free, as tests that a reader can run on a story, and that they are those conditions. Assumes nothing.
+-- In time, and free, as tests that a reader can run on a story, and that they are those conditions.
+-- Assumes nothing.
 use mathlib.Core.Path.{_≡_, refl}
 use mathlib.Core.Bool.{Bool, true, false, not, _&&_}
 use mathlib.Core.List.{List, [], _∷_}
@@ -17,7 +18,8 @@ use Rattle.timely.specs.InTime.{InTime, over, still, writes, next-frame,
 use Rattle.timely.specs.Free.{Free}
 use Rattle.timely.specs.Free as stated
 
--- a tick before the deadline; the next byte, into the empty buffer; nothing else that touches the sender
+-- a tick before the deadline; the next byte, into the empty buffer; nothing else that touches the
+-- sender
 abbrev pub allowed : Which → Chip → ℕ → List ℕ → Event → Role → Bool
 allowed w c n rest e Ticks = inTime (fullOf w c) n rest
 allowed w c n [] e (Writes b) = latchOf w c
@@ -43,11 +45,14 @@ unfoldable pub timely : Which → Chip → ℕ → List ℕ → List Event → B
 timely w c n rest [] = allWritten rest
 timely w c n rest (e ∷ st) =
     allowed w c n rest e (role w e)
-    && timely w (happens c e .chip) (since (role w e) (fullOf w c) (fullOf w (happens c e .chip)) n) (unwritten (role w e) rest) st
+    && timely w (happens c e .chip) (since (role w e) (fullOf w c) (fullOf w (happens c e .chip)) n)
+    (unwritten (role w e) rest) st
 
 -- one event, by its role; what follows is handed in
-one-more : (w : Which) (c : Chip) (n : ℕ) (rest : List ℕ) (e : Event) (st : List Event) (r : Role) → View w e r → role w e ≡ r → allowed w c n rest e r ≡ true
-    → InTime w [] (happens c e .chip) (since r (fullOf w c) (fullOf w (happens c e .chip)) n) (unwritten r rest) st → InTime w [] c n rest (e ∷ st)
+one-more : (w : Which) (c : Chip) (n : ℕ) (rest : List ℕ) (e : Event) (st : List Event) (r : Role)
+    → View w e r → role w e ≡ r → allowed w c n rest e r ≡ true
+    → InTime w [] (happens c e .chip) (since r (fullOf w c) (fullOf w (happens c e .chip)) n)
+    (unwritten r rest) st → InTime w [] c n rest (e ∷ st)
 one-more w c n rest _ st Ticks its-tick q a i = ticking a i
 one-more w c n [] _ st (Writes b) its-write q a i = next-frame a i
 one-more w c n (v ∷ rest) _ st (Writes b) its-write q a i =
@@ -56,16 +61,20 @@ one-more w c n (v ∷ rest) _ st (Writes b) its-write q a i =
     rw (← p) (writes f i)
 one-more w c n rest e st Else other q a i = still q (quiet-keeps w c e a) i
 
-pub in-time : (w : Which) (c : Chip) (n : ℕ) (rest : List ℕ) (st : List Event) → timely w c n rest st ≡ true → InTime w [] c n rest st
+pub in-time : (w : Which) (c : Chip) (n : ℕ) (rest : List ℕ) (st : List Event)
+    → timely w c n rest st ≡ true → InTime w [] c n rest st
 unfolding timely
 in-time w c n [] [] t = over
 in-time w c n (v ∷ rest) [] t = void t
 in-time w c n rest (e ∷ st) t =
     let r = role w e in
     let m = since r (fullOf w c) (fullOf w (happens c e .chip)) n in
-    let a = both-left (allowed w c n rest e r) (timely w (happens c e .chip) m (unwritten r rest) st) t in
-    let b = both-right (allowed w c n rest e r) (timely w (happens c e .chip) m (unwritten r rest) st) t in
-    one-more w c n rest e st r (view w e) refl a (in-time w (happens c e .chip) m (unwritten r rest) st b)
+    let a =
+    both-left (allowed w c n rest e r) (timely w (happens c e .chip) m (unwritten r rest) st) t in
+    let b =
+    both-right (allowed w c n rest e r) (timely w (happens c e .chip) m (unwritten r rest) st) t in
+    one-more w c n rest e st r (view w e) refl a
+    (in-time w (happens c e .chip) m (unwritten r rest) st b)
 
 -- The free host, likewise
 
@@ -78,7 +87,8 @@ unfoldable pub freely : Which → Chip → List Event → Bool
 freely w c [] = true
 freely w c (e ∷ st) = free w c e (role w e) && freely w (happens c e .chip) st
 
-one-free : (w : Which) (c : Chip) (e : Event) (st : List Event) (r : Role) → View w e r → role w e ≡ r → free w c e r ≡ true → Free w (happens c e .chip) st → Free w c (e ∷ st)
+one-free : (w : Which) (c : Chip) (e : Event) (st : List Event) (r : Role) → View w e r
+    → role w e ≡ r → free w c e r ≡ true → Free w (happens c e .chip) st → Free w c (e ∷ st)
 one-free w c _ st Ticks its-tick q a f = stated.ticking f
 one-free w c _ st (Writes b) its-write q a f = stated.writes f
 one-free w c e st Else other q a f = stated.still q (quiet-keeps w c e a) f
@@ -88,5 +98,7 @@ unfolding freely
 free-of w c [] t = stated.ended
 free-of w c (e ∷ st) t =
     let r = role w e in
-    one-free w c e st r (view w e) refl (both-left (free w c e r) (freely w (happens c e .chip) st) t)
-    (free-of w (happens c e .chip) st (both-right (free w c e r) (freely w (happens c e .chip) st) t))
+    one-free w c e st r (view w e) refl
+    (both-left (free w c e r) (freely w (happens c e .chip) st) t)
+    (free-of w (happens c e .chip) st
+    (both-right (free w c e r) (freely w (happens c e .chip) st) t))

@@ -1,8 +1,8 @@
 -- What is to come on the line. From an SDLC sender and the bytes `rest` that the host has still to
--- write, `toCome` gives the bits from here to the end of the closing flag, if each of those bytes is
--- written in time; in an abort, to the end of the flag behind it. The laws (Laws/Come): a tick in time
--- takes the first of these bits (`takes`), a write into the empty buffer changes none of them
--- (`moves`), nor does a write once the latch is set (`later`). Assumes nothing.
+-- write, `toCome` gives the bits from here to the end of the closing flag, if each of those bytes
+-- is written in time; in an abort, to the end of the flag behind it. The laws (Laws/Come): a tick
+-- in time takes the first of these bits (`takes`), a write into the empty buffer changes none of
+-- them (`moves`), nor does a write once the latch is set (`later`). Assumes nothing.
 use mathlib.Core.Bool.{Bool, true, false}
 use mathlib.Core.List.{List, [], _∷_, _++_}
 use Prim.Native.Nat.{ℕ, zero, suc}

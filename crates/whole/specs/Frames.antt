@@ -1,5 +1,5 @@
--- Frames as they are given back: a note's bytes and the two of its check, the last with the end mark;
--- several frames with shared flags. Assumes nothing.
+-- Frames as they are given back: a note's bytes and the two of its check, the last with the end
+-- mark; several frames with shared flags. Assumes nothing.
 use mathlib.Core.Bool.{Bool, true, false}
 use mathlib.Core.List.{List, [], _∷_, _++_}
 use Prim.Native.Nat.{ℕ}
@@ -9,8 +9,8 @@ use Rattle.line.specs.Bits.{Below}
 use Rattle.entry.specs.declared.Entry.{Entry}
 use Rattle.entry.specs.Entry.{plainEntry}
 
--- demand 2: "its bytes, its check" are `withCheck`; "and a good mark": entries of these bytes, without any mark; the last alone has the end mark, with a
--- check that is bad or not
+-- demand 2: "its bytes, its check" are `withCheck`; "and a good mark": entries of these bytes,
+-- without any mark; the last alone has the end mark, with a check that is bad or not
 unfoldable pub ended : Bool → List ℕ → List Entry
 ended bad [] = []
 ended bad (v ∷ []) = plainEntry v true bad ∷ []

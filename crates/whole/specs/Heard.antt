@@ -1,5 +1,5 @@
--- What an SDLC receiver hears over a stream of bits: where it ends and what it has handed over; flags
--- on the line, whatever receiver listens; end marks among entries. Assumes nothing.
+-- What an SDLC receiver hears over a stream of bits: where it ends and what it has handed over;
+-- flags on the line, whatever receiver listens; end marks among entries. Assumes nothing.
 use mathlib.Core.Path.{_≡_}
 use mathlib.Core.Bool.{Bool, true, false, not, _&&_}
 use mathlib.Core.List.{List, [], _∷_, _++_}

@@ -13,16 +13,17 @@ use Rattle.line.specs.Line.{noteFits}
 use Rattle.zeros.specs.declared.Counted.{Counted}
 use Rattle.zeros.specs.declared.Counted.the-variants.{Zeros, Refused}
 
--- 01, refusal 8: "the lent line buffer has fewer bytes from the named place on (none if the place is
--- past its end) than the line". "For a line: 6, then 8." The writer "returns the zeros inserted".
+-- 01, refusal 8: "the lent line buffer has fewer bytes from the named place on (none if the place
+-- is past its end) than the line". "For a line: 6, then 8." The writer "returns the zeros
+-- inserted".
 unfoldable pub writeOf : List ℕ → List ℕ → ℕ → Counted
 writeOf note buffer at =
     if noteFits (length note)
     then (if ltb (length buffer - at) (ticksOf note) then Refused NoRoom else Zeros (zerosOf note))
     else Refused NoteLength
 
--- "puts one note's frame, flags included, one bit per byte, at a place inside the caller's buffer, and
--- touches nothing before or after it"
+-- "puts one note's frame, flags included, one bit per byte, at a place inside the caller's buffer,
+-- and touches nothing before or after it"
 abbrev pub writtenAt : List Bool → List ℕ → ℕ → List ℕ
 writtenAt bits buffer at = take at buffer ++ (cells bits ++ drop (at + length bits) buffer)
 

@@ -21,8 +21,8 @@ countOf note = if noteFits (length note) then Zeros (zerosOf note) else Refused 
 unfoldable pub lineTicks : List ℕ → ℕ
 lineTicks note = if noteFits (length note) then ticksOf note else 0
 
--- Ones counted in fives: behind each five that is closed a zero is inserted, and the ones beyond the
--- closed fives are the run.
+-- Ones counted in fives: behind each five that is closed a zero is inserted, and the ones beyond
+-- the closed fives are the run.
 
 abbrev pub tally : ℕ → ℕ → Tally
 tally ones closed = record { ones = ones; closed = closed }

@@ -3,6 +3,7 @@ use common::Refusal;
 use line::ONES;
 use line::note_fits;
 use mirror::mirrored_byte;
+ghost use Rattle.zeros.specs.Counted.{countedNumber, countedZeros};
 ghost use mathlib.Core.Path.{_≡_};
 ghost use Prim.Native.Nat.{_≤_};
 ghost use lib.Dec.{ltb};
@@ -15,6 +16,28 @@ ghost use Rattle.zeros.specs.Zeros.{countOf, lineTicks, onesAfter, close
 pub enum Counted {
     Zeros(usize),
     Refused(Refusal),
+}
+
+impl Counted {
+    // The paper's number of the refusal, 0 for none.
+    pub fn number(self) -> u8
+        ensures { λ r. ⌜ r ≡ countedNumber self ⌝ }
+    {
+        match self {
+            Counted::Zeros(z) => 0,
+            Counted::Refused(k) => k.number(),
+        }
+    }
+
+    // The zeros inserted, 0 for a refusal.
+    pub fn zeros(self) -> usize
+        ensures { λ r. ⌜ r ≡ countedZeros self ⌝ }
+    {
+        match self {
+            Counted::Zeros(z) => z,
+            Counted::Refused(k) => 0,
+        }
+    }
 }
 
 // Ones counted in fives: behind each five that is closed a zero is inserted, and the ones beyond the closed fives are the run.

@@ -55,7 +55,8 @@ holding-line : (g : Typing) (k : Shared) (bs : List Bool) → sentIn (length bs)
 unfolding sentIn
 holding-line g k [] = refl
 holding-line g k (b ∷ bs) =
-    ap (λ (x : Typed). x .bit ∷ sentIn (length bs) g (x .character) (x .shared)) (tick-character g k b bs)
+    ap (λ (x : Typed). x .bit ∷ sentIn (length bs) g (x .character) (x .shared))
+    (tick-character g k b bs)
     ∙ ap (λ (l : List Bool). b ∷ l) (holding-line g k bs)
 
 -- "start 0, the low bits, parity, stop ones"
@@ -65,5 +66,6 @@ pub character-line : (g : Typing) (c : Character) (k : Shared)
 unfolding sentIn
 character-line g c k e h f =
     let bs = characterBits g (k .buffer) in
-    ap (λ (x : Typed). x .bit ∷ sentIn (length bs) g (x .character) (x .shared)) (tick-loads g k c e h f)
+    ap (λ (x : Typed). x .bit ∷ sentIn (length bs) g (x .character) (x .shared))
+    (tick-loads g k c e h f)
     ∙ ap (λ (l : List Bool). false ∷ l) (holding-line g (emptied k) bs)

@@ -7,7 +7,8 @@ use Rattle.queue.specs.Holding.{Plain, plain}
 use Rattle.bytesync.specs.declared.Matching.{Matching}
 use Rattle.bytesync.specs.declared.Reception.{Reception}
 use Rattle.bytesync.specs.declared.Matched.{Matched}
-use Rattle.bytesync.specs.Hearing.{shiftIn, counted, syncSeen, hunting, lastBit, arrived, assembling}
+use Rattle.bytesync.specs.Hearing.{shiftIn, counted, syncSeen, hunting, lastBit, arrived}
+use Rattle.bytesync.specs.Hearing.{assembling}
 use Rattle.bytesync.specs.Hearing.{hearBlock}
 
 abbrev PlainMatched : Matched → Type 0
@@ -17,7 +18,8 @@ module _ (g : Matching) (r : Reception) (c : ℕ) (b : Bool) where
   hunting-plain : PlainMatched (hunting g r c b)
   unfolding hunting
   hunting-plain =
-      if-elim PlainMatched (syncSeen (g .syncs) (counted (r .count)) (shiftIn b (r .bits))) plain plain
+      if-elim PlainMatched
+      (syncSeen (g .syncs) (counted (r .count)) (shiftIn b (r .bits))) plain plain
 
   assembling-plain : PlainMatched (assembling g r c b)
   unfolding assembling arrived

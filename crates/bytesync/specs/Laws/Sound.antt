@@ -17,7 +17,8 @@ use Rattle.bytesync.specs.declared.Reception.{Reception}
 use Rattle.bytesync.specs.declared.Matched.{Matched}
 use Rattle.bytesync.specs.Sending.{syncLeft, startSync, byteOrSync, underrun, following, next}
 use Rattle.bytesync.specs.Sending.{tickBlock}
-use Rattle.bytesync.specs.Hearing.{shiftIn, counted, syncSeen, hunting, lastBit, arrived, assembling}
+use Rattle.bytesync.specs.Hearing.{shiftIn, counted, syncSeen, hunting, lastBit, arrived}
+use Rattle.bytesync.specs.Hearing.{assembling}
 use Rattle.bytesync.specs.Hearing.{searching, hearBlock}
 use Rattle.bytesync.specs.Sound.{SoundBlockUnit, SoundReception}
 

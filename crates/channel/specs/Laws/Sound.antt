@@ -1,4 +1,5 @@
--- A channel reset gives what a history gives, and every event of a channel keeps it. Assumes nothing.
+-- A channel reset gives what a history gives, and every event of a channel keeps it. Assumes
+-- nothing.
 use mathlib.Core.Bool.{Bool, true, false, _&&_}
 use Prim.Native.Nat.{ℕ, _≤_}
 use native.Mathlib.Omega.{arith}
@@ -20,17 +21,21 @@ use Rattle.receiver.specs.Sound.{SoundReceiver}
 use Rattle.receiver.specs.Laws.Sound as receivers
 use Rattle.settings.specs.declared.Lines.{Lines}
 use Rattle.settings.specs.Settings.{store5, store6, store7, commandIn, presetIn}
-use Rattle.settings.specs.Settings.{pointerIn, entersHunt, modeOf, modeIn, notBuilt, sendingOf, receivingOf}
+use Rattle.settings.specs.Settings.{pointerIn, entersHunt, modeOf, modeIn, notBuilt, sendingOf}
+use Rattle.settings.specs.Settings.{receivingOf}
 use Rattle.channel.specs.declared.Side.{Side}
 use Rattle.channel.specs.declared.Side.the-variants.{A, B}
 use Rattle.channel.specs.declared.Channel.{Channel}
 use Rattle.channel.specs.declared.Answered.{Answered}
-use Rattle.channel.specs.Channel.{withRegisters, withSender, withReceiver, withQueue, withLines}
+use Rattle.channel.specs.Channel.{withRegisters, withSender, withReceiver, withQueue}
+use Rattle.channel.specs.Channel.{withLines}
 use Rattle.channel.specs.Channel.{withPointer, settled, resetWith}
-use Rattle.channel.specs.Control.{commanded, preset, commandStep, presetStep, writeWr0, setWr1}
+use Rattle.channel.specs.Control.{commanded, preset, commandStep, presetStep, writeWr0}
+use Rattle.channel.specs.Control.{setWr1}
 use Rattle.channel.specs.Control.{setWr2, setWr3, setWr4, setRegister, controlWritten}
 use Rattle.channel.specs.Control.{controlRead}
-use Rattle.channel.specs.Events.{dataWritten, dataRead, afterTick, transmitTick, queued, heardBy}
+use Rattle.channel.specs.Events.{dataWritten, dataRead, afterTick, transmitTick, queued}
+use Rattle.channel.specs.Events.{heardBy}
 use Rattle.channel.specs.Events.{receiveTick, linesSet}
 use Rattle.channel.specs.Sound.{SoundChannel}
 
@@ -48,7 +53,8 @@ settled-sound : (was is : Channel) → SoundChannel is → SoundChannel (settled
 unfolding settled
 settled-sound was is h = h
 
-sender-sound : (c : Channel) (s : Sender) → SoundChannel c → SoundSender s → SoundChannel (withSender c s)
+sender-sound : (c : Channel) (s : Sender) → SoundChannel c → SoundSender s
+    → SoundChannel (withSender c s)
 sender-sound c s h k =
     record { sender = k; receiver = h .receiver; queue = h .queue; pointer = h .pointer }
 
@@ -57,7 +63,8 @@ receiver-sound : (c : Channel) (r : Receiver) → SoundChannel c → SoundReceiv
 receiver-sound c r h k =
     record { sender = h .sender; receiver = k; queue = h .queue; pointer = h .pointer }
 
-queue-sound : (c : Channel) (q : Queue) → SoundChannel c → SoundQueue q → SoundChannel (withQueue c q)
+queue-sound : (c : Channel) (q : Queue) → SoundChannel c → SoundQueue q
+    → SoundChannel (withQueue c q)
 queue-sound c q h k =
     record { sender = h .sender; receiver = h .receiver; queue = k; pointer = h .pointer }
 
@@ -86,7 +93,8 @@ unfolding preset
 preset-sound c k h =
     let m = modeIn (c .registers) in
     if-elim SoundChannel (eqb k 1)
-    (receiver-sound c (presetCheck m (c .receiver)) h (receivers.preset-check-sound m (c .receiver) (h .receiver)))
+    (receiver-sound c (presetCheck m (c .receiver)) h
+    (receivers.preset-check-sound m (c .receiver) (h .receiver)))
     (if-elim SoundChannel (eqb k 2)
     (sender-sound c (checkPreset m (c .sender)) h (senders.preset-sound m (c .sender) (h .sender)))
     (if-elim SoundChannel (eqb k 3)
@@ -146,7 +154,8 @@ control-write-sound c w v h =
     let d = setRegister c w (c .pointer) v in
     if-elim SoundAnswered (eqb (c .pointer) 0) (wr0-sound c v h)
     (if-elim SoundAnswered (eqb (c .pointer) 4 && notBuilt v) h
-    (pointer-sound (settled c d) 0 (settled-sound c d (register-sound c w (c .pointer) v h)) (omega arith)))
+    (pointer-sound (settled c d) 0 (settled-sound c d (register-sound c w (c .pointer) v h))
+    (omega arith)))
 
 pub control-read-sound : (c : Channel) (pending : Bool) (vector : ℕ) → SoundChannel c
     → SoundChannel (controlRead c pending vector .channel)
@@ -185,6 +194,7 @@ receive-sound c b h =
       pointer = h .pointer;
     }
 
-pub lines-sound : (c : Channel) (dcd cts : Bool) → SoundChannel c → SoundChannel (linesSet c dcd cts)
+pub lines-sound : (c : Channel) (dcd cts : Bool) → SoundChannel c
+    → SoundChannel (linesSet c dcd cts)
 unfolding linesSet
 lines-sound c dcd cts h = settled-sound c (withLines c (record { dcd = dcd; cts = cts })) h

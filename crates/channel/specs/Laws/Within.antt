@@ -1,10 +1,10 @@
 -- Most ticks, in a form of their own: inside a byte of SDLC a transmit tick changes nothing but the
 -- sender, and inside a character a receive tick nothing but the receiver. Assumes nothing.
 use mathlib.Core.Path.{_≡_, refl, sym, ap, _∙_}
-use mathlib.Core.Bool.{Bool, true, false, not, _&&_, _||_}
+use mathlib.Core.Bool.{Bool, true, false, not, Bool·beq, _&&_, _||_}
 use Rattle.common.specs.Choice.{if_then_else_}
 use Rattle.common.specs.Mode.{inSdlc, inBlocks}
-use Rattle.common.specs.Tools.{by-test, void, both-left, both-right, not-true}
+use Rattle.common.specs.Tools.{by-test, void, both-left, both-right, not-true, beq→}
 use Rattle.common.specs.declared.Mode.{Mode}
 use Rattle.common.specs.declared.Mode.the-variants.{NoMode, Asynchronous, Monosync, Bisync, Sdlc}
 use Rattle.line.specs.Bits.{oneIf}
@@ -19,7 +19,7 @@ use Rattle.sender.specs.declared.Sending.{Sending}
 use Rattle.sender.specs.declared.Ticked.{Ticked}
 use Rattle.sender.specs.Sender.{framerOf, byFramer, withBreak, tick}
 use Rattle.sender.specs.Laws.Tick.{tick-sdlc}
-use Rattle.settings.specs.Settings.{transmitOn, receivingOf, sendingOf}
+use Rattle.settings.specs.Settings.{transmitOn, breaks, modeIn, receivingOf, sendingOf}
 use Rattle.receiver.specs.declared.Heard.{Heard}
 use Rattle.receiver.specs.Receiver.{listenerOf, listenerIn, silent, byListener, hunting}
 use Rattle.receiver.specs.Laws.Tick.{hear-sdlc}
@@ -29,7 +29,8 @@ use Rattle.channel.specs.declared.Channel.{Channel}
 use Rattle.channel.specs.declared.Answer.the-variants.{Gave}
 use Rattle.channel.specs.declared.Answered.{Answered}
 use Rattle.status.specs.Status.{changed, noticed, status}
-use Rattle.channel.specs.Channel.{withSender, withStatus, withTransmit, answered, liveOf, settled}
+use Rattle.channel.specs.Channel.{withSender, withStatus, withTransmit, answered, liveOf}
+use Rattle.channel.specs.Channel.{settled}
 use Rattle.channel.specs.Events.{afterTick, transmitted, transmitTick, heardBy, receiveTick}
 use Rattle.channel.specs.Within.{sendsWithin, withinByte, sentOn, tickedWithin, hearsWithin}
 use Rattle.channel.specs.Within.{heardWithin}
@@ -97,6 +98,30 @@ sent-on c t l e =
         answered (Gave (oneIf (t .bit)))
         (withStatus (withTransmit (withSender c next) m) (noticed (c .status) (liveOf c) (live u)))
 
+-- a tick that leaves the latch changes nothing that the status rule sees
+pub tick-still : (c : Channel) (t : Ticked) → t .sender .shared .latch ≡ c .sender .shared .latch
+    → settled c (afterTick c t) ≡ afterTick c t
+unfolding settled liveOf
+tick-still c t e =
+    ap (λ (u : Bool). withStatus (afterTick c t) (noticed (c .status) (liveOf c) (live u))) e
+    ∙ ap (λ (s : Status). withStatus (afterTick c t) s) (noticed-same (c .status) (liveOf c))
+  where
+    live : Bool → Live
+    live u = record {
+      abort = c .receiver .broken;
+      underrun = u;
+      cts = c .lines .cts;
+      hunt = hunting (receivingOf (c .registers) (c .lines)) (c .receiver);
+      dcd = c .lines .dcd;
+    }
+
+pub still-ticked : (c : Channel) (t : Ticked)
+    → Bool·beq (t .sender .shared .latch) (c .sender .shared .latch) ≡ true
+    → answered (Gave (oneIf (t .bit))) (afterTick c t) ≡ transmitted c t
+still-ticked c t e =
+    ap (answered (Gave (oneIf (t .bit))))
+    (sym (tick-still c t (beq→ (t .sender .shared .latch) (c .sender .shared .latch) (rw e tt))))
+
 -- what the test says
 
 in-sdlc : (m : Mode) → inSdlc m ≡ true → m ≡ Sdlc
@@ -110,11 +135,23 @@ pub tick-within : (g : Sending) (s : Sender) → sendsWithin g s ≡ true
     → tick g s ≡ byFramer s (tickWithin (framerOf s))
 tick-within g s w =
     let x = within (framerOf s) in
-    let rest = both-right (inSdlc (g .mode)) (not (g .broken) && x) w in
-    let off = not-true (g .broken) (both-left (not (g .broken)) x rest) in
-    tick-sdlc g s (in-sdlc (g .mode) (both-left (inSdlc (g .mode)) (not (g .broken) && x) w))
+    let sdlc = inSdlc (g .mode) in
+    let rest = both-right x (not (g .broken) && sdlc) w in
+    let off = not-true (g .broken) (both-left (not (g .broken)) sdlc rest) in
+    tick-sdlc g s (in-sdlc (g .mode) (both-right (not (g .broken)) sdlc rest))
     ∙ ap (λ (b : Bool). withBreak b (byFramer s (tickSdlc (g .framing) (framerOf s)))) off
-    ∙ ap (byFramer s) (sdlc-within (g .framing) (framerOf s) (both-right (not (g .broken)) x rest))
+    ∙ ap (byFramer s)
+    (sdlc-within (g .framing) (framerOf s) (both-left x (not (g .broken) && sdlc) w))
+
+-- the test as the code makes it
+pub inside-is : (c : Channel) → within (framerOf (c .sender)) ≡ true
+    → (not (breaks (c .registers .wr5)) && inSdlc (modeIn (c .registers))) ≡ withinByte c
+unfolding withinByte sendingOf
+inside-is c e = rw e
+
+pub outside-is : (c : Channel) → within (framerOf (c .sender)) ≡ false → false ≡ withinByte c
+unfolding withinByte
+outside-is c e = rw e
 
 pub within-tick : (c : Channel) → withinByte c ≡ true → transmitTick c ≡ tickedWithin c
 unfolding withinByte transmitTick tickedWithin
@@ -126,12 +163,15 @@ within-tick c w =
 -- Receiving: a tick that hands nothing over and leaves hunt and D7
 
 heard-on : (c : Channel) (b : Bool) → c .receiver .content .hunt ≡ false
-    → settled c (heardBy c (silent (listenerIn (c .receiver) (movedOn (listenerOf (c .receiver)) b))))
+    → settled c (heardBy c
+    (silent (listenerIn (c .receiver) (movedOn (listenerOf (c .receiver)) b))))
     ≡ heardWithin c b
 unfolding settled liveOf movedOn
 heard-on c b e =
     let g = receivingOf (c .registers) (c .lines) in
-    ap (λ (h : Bool). withStatus (heardWithin c b) (noticed (c .status) (liveOf c) (live ((inSdlc (g .mode) && h) || (inBlocks (g .mode) && c .receiver .reception .hunt)))))
+    ap (λ (h : Bool). withStatus (heardWithin c b)
+    (noticed (c .status) (liveOf c)
+    (live ((inSdlc (g .mode) && h) || (inBlocks (g .mode) && c .receiver .reception .hunt)))))
     (sym e)
     ∙ ap (λ (s : Status). withStatus (heardWithin c b) s) (noticed-same (c .status) (liveOf c))
   where
@@ -144,7 +184,8 @@ heard-on c b e =
       dcd = c .lines .dcd;
     }
 
-pub receive-within : (c : Channel) (b : Bool) → hearsWithin c b ≡ true → receiveTick c b ≡ heardWithin c b
+pub receive-within : (c : Channel) (b : Bool) → hearsWithin c b ≡ true
+    → receiveTick c b ≡ heardWithin c b
 unfolding hearsWithin receiveTick
 receive-within c b w =
     let g = receivingOf (c .registers) (c .lines) in
@@ -153,6 +194,8 @@ receive-within c b w =
     let rest = both-right (inSdlc (g .mode)) (g .on && x) w in
     let mode = in-sdlc (g .mode) (both-left (inSdlc (g .mode)) (g .on && x) w) in
     let facts = inside s b (both-right (g .on) x rest) in
-    ap (λ (h : Heard). settled c (heardBy c h)) (hear-sdlc g (c .receiver) b mode (both-left (g .on) x rest))
-    ∙ ap (λ (h : Listened). settled c (heardBy c (byListener (c .receiver) h))) (hear-within (g .addressing) s b facts)
+    ap (λ (h : Heard). settled c (heardBy c h))
+    (hear-sdlc g (c .receiver) b mode (both-left (g .on) x rest))
+    ∙ ap (λ (h : Listened). settled c (heardBy c (byListener (c .receiver) h)))
+    (hear-within (g .addressing) s b facts)
     ∙ heard-on c b (facts .found)

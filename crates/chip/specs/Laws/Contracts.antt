@@ -1,5 +1,6 @@
--- 01, How tight the contracts are: "prove that two results allowed by it are equal". Every public contract of the product's chip says that the
--- result is a definition's value at the inputs; docs/CONTRACTS.md has the list. Assumes nothing.
+-- 01, How tight the contracts are: "prove that two results allowed by it are equal". Every public
+-- contract of the product's chip says that the result is a definition's value at the inputs;
+-- docs/CONTRACTS.md has the list. Assumes nothing.
 use mathlib.Core.Path.{_≡_, sym, _∙_}
 
 -- a contract `r ≡ f inputs` allows this result

@@ -34,7 +34,8 @@ use Rattle.chip.specs.Chip.{receiveIn, receiveCall, linesIn, linesCall}
 use Rattle.chip.specs.Event.{Event, HardReset, ControlWrite, ControlRead, DataWrite, DataRead}
 use Rattle.chip.specs.Event.{Transmit, Receive, SetLines, Acknowledge, Reti}
 use Rattle.chip.specs.Event.{ackedAnswer, step}
-use Rattle.chip.specs.Refusals.{Row, channelAbove, bitAbove, linesAbove, settingNotBuilt, noneWaits}
+use Rattle.chip.specs.Refusals.{Row, channelAbove, bitAbove, linesAbove, settingNotBuilt}
+use Rattle.chip.specs.Refusals.{noneWaits}
 use Rattle.chip.specs.Refusals.{rowsOf, firstRow}
 
 abbrev numberIn : Outcome → ℕ

@@ -147,7 +147,8 @@ module _ {c : Chip} {s : Framer} (h : Stands c s) where
         pointer = refl;
         good = h .good;
         sends =
-            ap (λ (m : Mode). withShared (framerOf (c .a .sender)) (checkSet (c .a .sender .shared) (presetFor m)))
+            ap (λ (m : Mode). withShared (framerOf (c .a .sender))
+            (checkSet (c .a .sender .shared) (presetFor m)))
             (mode-in c (h .good))
             ∙ ap (λ (x : Framer). withShared x (checkSet (x .shared) ones)) (h .sends);
       })

@@ -155,7 +155,8 @@ module _ (c : Chip) (p : c .a .pointer ≡ 0) (g : Good (sendingA c))
   ready-with s =
       let blocks = sendsCheck (c .a .sender .block) in
       d2 (chipWith c s) p
-      ∙ ap (λ (m : Mode). not (s .shared .full) && not (if inBlocks m then blocks else checking (s .unit)))
+      ∙ ap (λ (m : Mode). not (s .shared .full)
+      && not (if inBlocks m then blocks else checking (s .unit)))
       (with-stands s .good .sdlc-mode)
 
   offer-with : (s : Framer) (rest : List ℕ)

@@ -64,11 +64,13 @@ third-of p q b r s t u w =
     ∙ third (oneIf p) (oneIf q) (oneIf r) (oneIf s) (oneIf t) (oneIf u) (oneIf w) b
     (one-or-none p) (one-or-none q)
 
-rr0-third : (a : Channel) (pending : Bool) → odd (rr0 a pending / 4) ≡ bufferReady (sendingOf (a .registers) (a .lines)) (a .sender)
+rr0-third : (a : Channel) (pending : Bool)
+    → odd (rr0 a pending / 4) ≡ bufferReady (sendingOf (a .registers) (a .lines)) (a .sender)
 unfolding rr0
 rr0-third a pending =
     let s = shownBits (a .status) (liveOf a) in
-    third-of (waits (a .queue)) pending (bufferReady (sendingOf (a .registers) (a .lines)) (a .sender)) (s .dcd) (s .hunt) (s .cts)
+    third-of (waits (a .queue)) pending
+    (bufferReady (sendingOf (a .registers) (a .lines)) (a .sender)) (s .dcd) (s .hunt) (s .cts)
     (s .underrun) (s .abort)
 
 reads-rr0 : (a : Channel) (pending : Bool) (vector : ℕ) → a .pointer ≡ 0
@@ -76,7 +78,8 @@ reads-rr0 : (a : Channel) (pending : Bool) (vector : ℕ) → a .pointer ≡ 0
 unfolding readRegister
 reads-rr0 a pending vector p = if-true _ _ (ap (λ (n : ℕ). eqb n 0) p)
 
-pub d2 : (c : Chip) → c .a .pointer ≡ 0 → emptyA c ≡ bufferReady (sendingOf (c .a .registers) (c .a .lines)) (c .a .sender)
+pub d2 : (c : Chip) → c .a .pointer ≡ 0
+    → emptyA c ≡ bufferReady (sendingOf (c .a .registers) (c .a .lines)) (c .a .sender)
 unfolding emptyA controlReadCall
 d2 c p =
     ap (λ (n : ℕ). odd (n / 4)) (reads-rr0 (c .a) (anyPending c) 0 p)

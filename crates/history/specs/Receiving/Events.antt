@@ -1,4 +1,5 @@
--- The chip meets the receiving side: what a receive tick and a data read of a channel do to it, and what the reads answer. Assumes nothing.
+-- The chip meets the receiving side: what a receive tick and a data read of a channel do to it, and
+-- what the reads answer. Assumes nothing.
 use mathlib.Core.Path.{_≡_, refl, sym, ap, ap₂, _∙_}
 use mathlib.Core.Bool.{Bool, true, false, not}
 use mathlib.Core.List.{List, [], _∷_, _++_}
@@ -28,7 +29,8 @@ use Rattle.chip.specs.Chip.{inA, inB, onLevel, dataReadCall, receiveCall}
 use Rattle.chip.specs.Event.{Event, HardReset, ControlWrite, ControlRead, DataWrite, DataRead}
 use Rattle.chip.specs.Event.{Transmit, Receive, SetLines, Acknowledge, Reti}
 use Rattle.stories.specs.Story.{Which, A, B, number, chan, happens}
-use Rattle.stories.specs.Received.{Role, Hears, Reads, Else, role, isRead, taking, valueIf, valuesOf}
+use Rattle.stories.specs.Received.{Role, Hears, Reads, Else, role, isRead, taking, valueIf}
+use Rattle.stories.specs.Received.{valuesOf}
 use Rattle.stories.specs.Received.{tookOf, bytesOf}
 use Rattle.history.specs.Receiving.Side.{Heeded, heeded, Side, side, sideIn, sideOf}
 use Rattle.common.specs.declared.Refusal.the-variants as refusal
@@ -56,7 +58,8 @@ pub record Hearing (g : Heeded) : Type 0 where
   pub mode : g .mode ≡ Sdlc
   pub on : g .on ≡ true
 
-heard-in : (c : Channel) (b : Bool) → Hearing (sideIn c .settings) → sideIn (receiveTick c b) ≡ heardSide b (sideIn c)
+heard-in : (c : Channel) (b : Bool) → Hearing (sideIn c .settings)
+    → sideIn (receiveTick c b) ≡ heardSide b (sideIn c)
 unfolding receiveTick settled
 heard-in c b h =
     let g = receivingOf (c .registers) (c .lines) in
@@ -64,25 +67,43 @@ heard-in c b h =
     (hear-sdlc g (c .receiver) b (h .mode) (h .on))
 
 tick-follows : (w : Which) (c : Chip) (bit : ℕ) → Hearing (sideOf w c .settings)
-    → Follows w c (happens c (Receive (number w) bit) .chip) (if leb 2 bit then Else else Hears (onLevel bit))
+    → Follows w c (happens c (Receive (number w) bit) .chip)
+    (if leb 2 bit then Else else Hears (onLevel bit))
 unfolding receiveCall
 tick-follows A c bit h =
-    elim (leb 2 bit) as (λ t. Follows A c (inA c (if t then answered (Refused refusal.Level) (c .a) else answered Done (receiveTick (c .a) (onLevel bit))) .chip)
-    (if t then Else else Hears (onLevel bit))) [ true ↦ tt | false ↦ heard-in (c .a) (onLevel bit) h ]
+    elim (leb 2 bit) as
+    (λ t. Follows A c
+    (inA c (if t then answered (Refused refusal.Level) (c .a) else answered Done
+    (receiveTick (c .a) (onLevel bit))) .chip)
+    (if t then Else else Hears (onLevel bit))) [
+      | true ↦ tt
+      | false ↦ heard-in (c .a)
+          (onLevel bit) h
+    ]
 tick-follows B c bit h =
-    elim (leb 2 bit) as (λ t. Follows B c (inB c (if t then answered (Refused refusal.Level) (c .b) else answered Done (receiveTick (c .b) (onLevel bit))) .chip)
-    (if t then Else else Hears (onLevel bit))) [ true ↦ tt | false ↦ heard-in (c .b) (onLevel bit) h ]
+    elim (leb 2 bit) as
+    (λ t. Follows B c
+    (inB c (if t then answered (Refused refusal.Level) (c .b) else answered Done
+    (receiveTick (c .b) (onLevel bit))) .chip)
+    (if t then Else else Hears (onLevel bit))) [
+      | true ↦ tt
+      | false ↦ heard-in (c .b)
+          (onLevel bit) h
+    ]
 
 -- with none waiting a read changes nothing
 taken-none : (q : Queue) → waits q ≡ false → taken q ≡ q
 unfolding taken
-taken-none q e = by-test (λ (x : Queue). x ≡ q) (eqb (q .count) 0) (λ t. refl) (λ t. void (sym e ∙ ap not t))
+taken-none q e =
+    by-test (λ (x : Queue). x ≡ q) (eqb (q .count) 0) (λ t. refl) (λ t. void (sym e ∙ ap not t))
 
 read-in : (c : Channel) → sideIn (dataRead c .channel) ≡ readSide (sideIn c)
 unfolding dataRead
 read-in c =
-    by-test (λ (d : Answered). sideIn (d .channel) ≡ readSide (sideIn c)) (waits (c .queue)) (λ e. refl)
-    (λ e. ap (λ (q : Queue). side (listenerOf (c .receiver)) q (heeded (receivingOf (c .registers) (c .lines)))) (sym (taken-none (c .queue) e)))
+    by-test (λ (d : Answered). sideIn (d .channel) ≡ readSide (sideIn c)) (waits (c .queue))
+    (λ e. refl)
+    (λ e. ap (λ (q : Queue). side (listenerOf (c .receiver)) q
+    (heeded (receivingOf (c .registers) (c .lines)))) (sym (taken-none (c .queue) e)))
 
 read-follows : (w : Which) (c : Chip) → Follows w c (happens c (DataRead (number w)) .chip) Reads
 unfolding dataReadCall
@@ -96,7 +117,8 @@ follows w c (ControlWrite ch v) h = tt
 follows w c (ControlRead ch) h = tt
 follows w c (DataWrite ch v) h = tt
 follows w c (DataRead ch) h =
-    eqb-elim (λ t. Follows w c (happens c (DataRead ch) .chip) (if t then Reads else Else)) ch (number w)
+    eqb-elim (λ t. Follows w c (happens c (DataRead ch) .chip) (if t then Reads else Else)) ch
+    (number w)
     (λ e. rw e (read-follows w c)) (λ n. tt)
 follows w c (Transmit ch) h = tt
 follows w c (Receive ch bit) h =
@@ -115,7 +137,8 @@ bytes-append [] ys = refl
 bytes-append (x ∷ xs) ys = ap (λ (l : List ℕ). x .byte ∷ l) (bytes-append xs ys)
 
 abbrev Answers : Which → Chip → Outcome → Role → Type 0
-Answers w c o r = bytesOf (entryIf (taking w c r) (oldest (chan w c .queue))) ≡ valueIf (isRead r) (o .answer)
+Answers w c o r =
+    bytesOf (entryIf (taking w c r) (oldest (chan w c .queue))) ≡ valueIf (isRead r) (o .answer)
 
 read-gives : (c : Channel)
     → let q = c .queue in bytesOf (entryIf (waits q) (oldest q)) ≡ valueIf true (dataRead c .answer)
@@ -134,16 +157,21 @@ answers w c (ControlWrite ch v) = refl
 answers w c (ControlRead ch) = refl
 answers w c (DataWrite ch v) = refl
 answers w c (DataRead ch) =
-    eqb-elim (λ t. Answers w c (happens c (DataRead ch)) (if t then Reads else Else)) ch (number w) (λ e. rw e (read-answers w c)) (λ n. refl)
+    eqb-elim (λ t. Answers w c (happens c (DataRead ch)) (if t then Reads else Else)) ch (number w)
+    (λ e. rw e (read-answers w c)) (λ n. refl)
 answers w c (Transmit ch) = refl
-answers w c (Receive ch bit) = if-elim (Answers w c (happens c (Receive ch bit))) (eqb ch (number w)) (if-elim (Answers w c (happens c (Receive ch bit))) (leb 2 bit) refl refl) refl
+answers w c (Receive ch bit) =
+    if-elim (Answers w c (happens c (Receive ch bit))) (eqb ch (number w))
+    (if-elim (Answers w c (happens c (Receive ch bit))) (leb 2 bit) refl refl) refl
 answers w c (SetLines ch dcd cts) = refl
 answers w c Acknowledge = refl
 answers w c Reti = refl
 
-pub values-are : (w : Which) (c : Chip) (st : List Event) → bytesOf (tookOf w c st) ≡ valuesOf w c st
+pub values-are : (w : Which) (c : Chip) (st : List Event)
+    → bytesOf (tookOf w c st) ≡ valuesOf w c st
 unfolding tookOf valuesOf
 values-are w c [] = unfold bytesOf in refl
 values-are w c (e ∷ st) =
-    bytes-append (entryIf (taking w c (role w e)) (oldest (chan w c .queue))) (tookOf w (happens c e .chip) st)
+    bytes-append (entryIf (taking w c (role w e)) (oldest (chan w c .queue)))
+    (tookOf w (happens c e .chip) st)
     ∙ ap₂ (λ (x y : List ℕ). x ++ y) (answers w c e) (values-are w (happens c e .chip) st)

@@ -1,4 +1,5 @@
--- Which events leave the receiving side of a channel as it was: a test that a reader can run, and the proof that it is enough. Assumes nothing.
+-- Which events leave the receiving side of a channel as it was: a test that a reader can run, and
+-- the proof that it is enough. Assumes nothing.
 use mathlib.Core.Path.{_≡_, refl, sym, ap, _∙_}
 use mathlib.Core.Bool.{Bool, true, false, not, _&&_, _||_}
 use Prim.Native.Nat.{ℕ, _/_}
@@ -50,7 +51,8 @@ quietWrite p v = if eqb p 0 then quietWr0 v else quietRegister p
 abbrev pub quietLines : Channel → Bool → Bool
 quietLines c dcd = not (autoEnables (c .registers)) || not (differs dcd (c .lines .dcd))
 
--- events of the other channel are quiet; of this one all but receive ticks and data reads, and what writes its receiver or queue or sets it anew
+-- events of the other channel are quiet; of this one all but receive ticks and data reads, and what
+-- writes its receiver or queue or sets it anew
 abbrev pub quiet : Which → Chip → Event → Bool
 quiet w c HardReset = false
 quiet w c (ControlWrite ch v) = not (here w ch) || quietWrite (chan w c .pointer) v
@@ -71,12 +73,16 @@ KeptIn c x = sideIn x ≡ sideIn c
 commanded-kept : (c : Channel) (k : ℕ) → not (eqb k 6) ≡ true → KeptIn c (commanded c k)
 unfolding commanded
 commanded-kept c k n =
-    if-elim (KeptIn c) (eqb k 1) refl (if-elim (KeptIn c) (eqb k 2) refl (if-elim (KeptIn c) (eqb k 4) refl (if-elim (KeptIn c) (eqb k 5) refl
+    if-elim (KeptIn c) (eqb k 1) refl
+    (if-elim (KeptIn c) (eqb k 2) refl
+    (if-elim (KeptIn c) (eqb k 4) refl (if-elim (KeptIn c) (eqb k 5) refl
     (by-test (KeptIn c) (eqb k 6) (λ t. refused-test n t) (λ t. refl)))))
 
 preset-kept : (c : Channel) (k : ℕ) → not (eqb k 1) ≡ true → KeptIn c (preset c k)
 unfolding preset
-preset-kept c k n = by-test (KeptIn c) (eqb k 1) (λ t. refused-test n t) (λ t. if-elim (KeptIn c) (eqb k 2) refl (if-elim (KeptIn c) (eqb k 3) refl refl))
+preset-kept c k n =
+    by-test (KeptIn c) (eqb k 1) (λ t. refused-test n t)
+    (λ t. if-elim (KeptIn c) (eqb k 2) refl (if-elim (KeptIn c) (eqb k 3) refl refl))
 
 wr0-kept : (c : Channel) (v : ℕ) → quietWr0 v ≡ true → KeptIn c (writeWr0 c v)
 unfolding writeWr0 presetStep commandStep settled
@@ -86,7 +92,8 @@ wr0-kept c v q =
     let d = not (eqb (presetIn v) 1) in
     let r = both-right a (b && d) q in
     by-test (KeptIn c) (eqb (commandIn v) 3) (λ t. refused-test (both-left a (b && d) q) t)
-    (λ t. preset-kept (commandStep c v) (presetIn v) (both-right b d r) ∙ commanded-kept c (commandIn v) (both-left b d r))
+    (λ t. preset-kept (commandStep c v) (presetIn v) (both-right b d r)
+    ∙ commanded-kept c (commandIn v) (both-left b d r))
 
 wr1-kept : (c : Channel) (v : ℕ) → KeptIn c (setWr1 c v)
 unfolding receivingOf
@@ -106,21 +113,30 @@ unfolding receivingOf
 wr7-kept c v = refl
 
 -- whichever register is written, if not WR3, WR4 or WR6
-chosen-kept : (c : Channel) (p : ℕ) (r1 r2 r3 r4 r5 r6 r7 : Channel) → quietRegister p ≡ true → KeptIn c r1 → KeptIn c r2 → KeptIn c r5 → KeptIn c r7
-    → KeptIn c (if eqb p 1 then r1 else (if eqb p 2 then r2 else (if eqb p 3 then r3 else (if eqb p 4 then r4 else (if eqb p 5 then r5 else (if eqb p 6 then r6 else r7))))))
+chosen-kept : (c : Channel) (p : ℕ) (r1 r2 r3 r4 r5 r6 r7 : Channel) → quietRegister p ≡ true
+    → KeptIn c r1 → KeptIn c r2 → KeptIn c r5 → KeptIn c r7
+    → KeptIn c (if eqb p 1 then r1 else
+    (if eqb p 2 then r2 else
+    (if eqb p 3 then r3 else
+    (if eqb p 4 then r4 else (if eqb p 5 then r5 else (if eqb p 6 then r6 else r7))))))
 chosen-kept c p r1 r2 r3 r4 r5 r6 r7 q k1 k2 k5 k7 =
     let r = both-right (not (eqb p 3)) (not (eqb p 4) && not (eqb p 6)) q in
     if-elim (KeptIn c) (eqb p 1) k1 (if-elim (KeptIn c) (eqb p 2) k2
-    (by-test (KeptIn c) (eqb p 3) (λ t. refused-test (both-left (not (eqb p 3)) (not (eqb p 4) && not (eqb p 6)) q) t)
-    (λ t. by-test (KeptIn c) (eqb p 4) (λ t. refused-test (both-left (not (eqb p 4)) (not (eqb p 6)) r) t)
+    (by-test (KeptIn c) (eqb p 3)
+    (λ t. refused-test (both-left (not (eqb p 3)) (not (eqb p 4) && not (eqb p 6)) q) t)
+    (λ t. by-test (KeptIn c) (eqb p 4)
+    (λ t. refused-test (both-left (not (eqb p 4)) (not (eqb p 6)) r) t)
     (λ t. if-elim (KeptIn c) (eqb p 5) k5
-    (by-test (KeptIn c) (eqb p 6) (λ t. refused-test (both-right (not (eqb p 4)) (not (eqb p 6)) r) t) (λ t. k7))))))
+    (by-test (KeptIn c) (eqb p 6)
+    (λ t. refused-test (both-right (not (eqb p 4)) (not (eqb p 6)) r) t) (λ t. k7))))))
 
-register-kept : (c : Channel) (w : channel.Side) (p v : ℕ) → quietRegister p ≡ true → KeptIn c (setRegister c w p v)
+register-kept : (c : Channel) (w : channel.Side) (p v : ℕ) → quietRegister p ≡ true
+    → KeptIn c (setRegister c w p v)
 unfolding setRegister
 register-kept c w p v q =
     let r = c .registers in
-    chosen-kept c p (setWr1 c v) (setWr2 c w v) (setWr3 c v) (setWr4 c v) (withRegisters c (store5 r v)) (withRegisters c (store6 r v)) (withRegisters c (store7 r v)) q
+    chosen-kept c p (setWr1 c v) (setWr2 c w v) (setWr3 c v) (setWr4 c v)
+    (withRegisters c (store5 r v)) (withRegisters c (store6 r v)) (withRegisters c (store7 r v)) q
     (wr1-kept c v) (wr2-kept c w v) (wr5-kept c v) (wr7-kept c v)
 
 quiet-register : (p v : ℕ) → quietWrite p v ≡ true → eqb p 0 ≡ false → quietRegister p ≡ true
@@ -129,7 +145,8 @@ quiet-register p v q t = sym (ap (λ (b : Bool). if b then quietWr0 v else quiet
 quiet-wr0 : (p v : ℕ) → quietWrite p v ≡ true → eqb p 0 ≡ true → quietWr0 v ≡ true
 quiet-wr0 p v q t = sym (ap (λ (b : Bool). if b then quietWr0 v else quietRegister p) t) ∙ q
 
-written-kept : (c : Channel) (w : channel.Side) (v : ℕ) → quietWrite (c .pointer) v ≡ true → KeptIn c (controlWritten c w v .channel)
+written-kept : (c : Channel) (w : channel.Side) (v : ℕ) → quietWrite (c .pointer) v ≡ true
+    → KeptIn c (controlWritten c w v .channel)
 unfolding controlWritten settled
 written-kept c w v q =
     by-test (λ (r : Answered). KeptIn c (r .channel)) (eqb (c .pointer) 0)
@@ -171,16 +188,21 @@ abbrev others : Which → Outcome → Outcome → Outcome
 others A a b = b
 others B a b = a
 
-call-kept : (w : Which) (c : Chip) (ch : ℕ) (a b : Outcome) → (here w ch ≡ true → KeptBy w c (own w a b)) → KeptBy w c (others w a b) → KeptBy w c (byChannel c ch a b)
-call-kept A c ch a b p q = by-test (KeptBy A c) (eqb ch 0) p (λ t. if-elim (KeptBy A c) (eqb ch 1) q refl)
-call-kept B c ch a b p q = if-elim (KeptBy B c) (eqb ch 0) q (by-test (KeptBy B c) (eqb ch 1) p (λ t. refl))
+call-kept : (w : Which) (c : Chip) (ch : ℕ) (a b : Outcome)
+    → (here w ch ≡ true → KeptBy w c (own w a b)) → KeptBy w c (others w a b)
+    → KeptBy w c (byChannel c ch a b)
+call-kept A c ch a b p q =
+    by-test (KeptBy A c) (eqb ch 0) p (λ t. if-elim (KeptBy A c) (eqb ch 1) q refl)
+call-kept B c ch a b p q =
+    if-elim (KeptBy B c) (eqb ch 0) q (by-test (KeptBy B c) (eqb ch 1) p (λ t. refl))
 
 -- sources go into service or out of it
 service-kept : (w : Which) (c : Chip) (s : Six) → Kept w c (inService c s)
 service-kept A c s = refl
 service-kept B c s = refl
 
-write-own : (c : Chip) (v : ℕ) → quietWrite (c .a .pointer) v ≡ true → KeptBy A c (controlWriteA c v)
+write-own : (c : Chip) (v : ℕ) → quietWrite (c .a .pointer) v ≡ true
+    → KeptBy A c (controlWriteA c v)
 unfolding controlWriteA
 write-own c v q = written-kept (inService c (serviceBy c v) .a) channels.A v q
 
@@ -188,10 +210,16 @@ write-other : (c : Chip) (v : ℕ) → KeptBy B c (controlWriteA c v)
 unfolding controlWriteA
 write-other c v = refl
 
-write-kept : (w : Which) (c : Chip) (ch v : ℕ) → quiet w c (ControlWrite ch v) ≡ true → KeptBy w c (controlWrite c ch v)
+write-kept : (w : Which) (c : Chip) (ch v : ℕ) → quiet w c (ControlWrite ch v) ≡ true
+    → KeptBy w c (controlWrite c ch v)
 unfolding controlWrite
-write-kept A c ch v q = call-kept A c ch _ _ (λ t. write-own c v (or-right (here A ch) (quietWrite (c .a .pointer) v) q t)) refl
-write-kept B c ch v q = call-kept B c ch _ _ (λ t. written-kept (c .b) channels.B v (or-right (here B ch) (quietWrite (c .b .pointer) v) q t)) (write-other c v)
+write-kept A c ch v q =
+    call-kept A c ch _ _
+    (λ t. write-own c v (or-right (here A ch) (quietWrite (c .a .pointer) v) q t)) refl
+write-kept B c ch v q =
+    call-kept B c ch _ _
+    (λ t. written-kept (c .b) channels.B v
+    (or-right (here B ch) (quietWrite (c .b .pointer) v) q t)) (write-other c v)
 
 read-kept : (w : Which) (c : Chip) (ch : ℕ) → KeptBy w c (controlReadCall c ch)
 unfolding controlReadCall
@@ -203,7 +231,8 @@ unfolding dataWriteCall
 data-write-kept A c ch v = call-kept A c ch _ _ (λ t. refl) refl
 data-write-kept B c ch v = call-kept B c ch _ _ (λ t. refl) refl
 
-data-read-kept : (w : Which) (c : Chip) (ch : ℕ) → not (here w ch) ≡ true → KeptBy w c (dataReadCall c ch)
+data-read-kept : (w : Which) (c : Chip) (ch : ℕ) → not (here w ch) ≡ true
+    → KeptBy w c (dataReadCall c ch)
 unfolding dataReadCall
 data-read-kept A c ch q = call-kept A c ch _ _ (λ t. refused-test q t) refl
 data-read-kept B c ch q = call-kept B c ch _ _ (λ t. refused-test q t) refl
@@ -213,27 +242,37 @@ unfolding transmitCall transmitTick settled
 transmit-kept A c ch = call-kept A c ch _ _ (λ t. refl) refl
 transmit-kept B c ch = call-kept B c ch _ _ (λ t. refl) refl
 
-receive-kept : (w : Which) (c : Chip) (ch bit : ℕ) → not (here w ch) || leb 2 bit ≡ true → KeptBy w c (receiveCall c ch bit)
+receive-kept : (w : Which) (c : Chip) (ch bit : ℕ) → not (here w ch) || leb 2 bit ≡ true
+    → KeptBy w c (receiveCall c ch bit)
 unfolding receiveCall
 receive-kept A c ch bit q =
-    call-kept A c ch _ _ (λ t. by-test (λ (x : Answered). KeptBy A c (inA c x)) (leb 2 bit) (λ u. refl)
+    call-kept A c ch _ _
+    (λ t. by-test (λ (x : Answered). KeptBy A c (inA c x)) (leb 2 bit) (λ u. refl)
     (λ u. void (sym u ∙ or-right (here A ch) (leb 2 bit) q t))) refl
 receive-kept B c ch bit q =
-    call-kept B c ch _ _ (λ t. by-test (λ (x : Answered). KeptBy B c (inB c x)) (leb 2 bit) (λ u. refl)
+    call-kept B c ch _ _
+    (λ t. by-test (λ (x : Answered). KeptBy B c (inB c x)) (leb 2 bit) (λ u. refl)
     (λ u. void (sym u ∙ or-right (here B ch) (leb 2 bit) q t))) refl
 
-set-lines-kept : (w : Which) (c : Chip) (ch dcd cts : ℕ) → not (here w ch) || quietLines (chan w c) (onLevel dcd) ≡ true → KeptBy w c (linesCall c ch dcd cts)
+set-lines-kept : (w : Which) (c : Chip) (ch dcd cts : ℕ)
+    → not (here w ch) || quietLines (chan w c) (onLevel dcd) ≡ true
+    → KeptBy w c (linesCall c ch dcd cts)
 unfolding linesCall
 set-lines-kept A c ch dcd cts q =
     call-kept A c ch _ _
-    (λ t. if-elim (λ (x : Answered). KeptBy A c (inA c x)) (leb 2 dcd || leb 2 cts) refl (lines-kept (c .a) (onLevel dcd) (onLevel cts) (or-right (here A ch) (quietLines (c .a) (onLevel dcd)) q t)))
+    (λ t. if-elim (λ (x : Answered). KeptBy A c (inA c x)) (leb 2 dcd || leb 2 cts) refl
+    (lines-kept (c .a) (onLevel dcd) (onLevel cts)
+    (or-right (here A ch) (quietLines (c .a) (onLevel dcd)) q t)))
     refl
 set-lines-kept B c ch dcd cts q =
     call-kept B c ch _ _
-    (λ t. if-elim (λ (x : Answered). KeptBy B c (inB c x)) (leb 2 dcd || leb 2 cts) refl (lines-kept (c .b) (onLevel dcd) (onLevel cts) (or-right (here B ch) (quietLines (c .b) (onLevel dcd)) q t)))
+    (λ t. if-elim (λ (x : Answered). KeptBy B c (inB c x)) (leb 2 dcd || leb 2 cts) refl
+    (lines-kept (c .b) (onLevel dcd) (onLevel cts)
+    (or-right (here B ch) (quietLines (c .b) (onLevel dcd)) q t)))
     refl
 
-pub quiet-keeps : (w : Which) (c : Chip) (e : Event) → quiet w c e ≡ true → sideOf w (happens c e .chip) ≡ sideOf w c
+pub quiet-keeps : (w : Which) (c : Chip) (e : Event) → quiet w c e ≡ true
+    → sideOf w (happens c e .chip) ≡ sideOf w c
 unfolding acknowledge reti
 quiet-keeps w c HardReset q = void q
 quiet-keeps w c (ControlWrite ch v) q = write-kept w c ch v q

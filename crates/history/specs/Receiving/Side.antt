@@ -1,5 +1,6 @@
--- The receiving side of a channel: SDLC's part of its receiver, the queue, and what registers and lines
--- say to the receiver; what they say to Monosync and Bisync alone is left out. Assumes nothing.
+-- The receiving side of a channel: SDLC's part of its receiver, the queue, and what registers and
+-- lines say to the receiver; what they say to Monosync and Bisync alone is left out. Assumes
+-- nothing.
 use mathlib.Core.Bool.{Bool}
 use Rattle.common.specs.declared.Mode.{Mode}
 use Rattle.queue.specs.declared.Queue.{Queue}

@@ -1,5 +1,5 @@
--- What the three kinds of event are to the sender's side, and to its line: a tick, a data write, and
--- anything else. Assumes nothing.
+-- What the three kinds of event are to the sender's side, and to its line: a tick, a data write,
+-- and anything else. Assumes nothing.
 use mathlib.Core.Path.{_≡_, refl, sym, ap, _∙_}
 use mathlib.Core.Bool.{Bool, true, false}
 use mathlib.Core.List.{List, [], _∷_, _++_, append-assoc}
@@ -73,7 +73,8 @@ pub tick-counts : (w : Which) → isTick w (Transmit (number w)) ≡ true
 tick-counts A = refl
 tick-counts B = refl
 
-pub tick-more : (w : Which) (st : List Event) → ticks w (Transmit (number w) ∷ st) ≡ suc (ticks w st)
+pub tick-more : (w : Which) (st : List Event)
+    → ticks w (Transmit (number w) ∷ st) ≡ suc (ticks w st)
 unfolding ticks
 tick-more w st = rw (tick-counts w) (omega arith)
 
@@ -89,21 +90,26 @@ write-no-tick A v = refl
 write-no-tick B v = refl
 
 -- an event that is no tick gives no bit and counts for none
-pub skip-line : (w : Which) (c : Chip) (x : Event) (st : List Event) → isTick w x ≡ false → lineOf w c (x ∷ st) ≡ lineOf w (happens c x .chip) st
+pub skip-line : (w : Which) (c : Chip) (x : Event) (st : List Event) → isTick w x ≡ false
+    → lineOf w c (x ∷ st) ≡ lineOf w (happens c x .chip) st
 unfolding lineOf
-skip-line w c x st z = ap (λ (t : Bool). lineBit t (happens c x .answer) ++ lineOf w (happens c x .chip) st) z
+skip-line w c x st z =
+    ap (λ (t : Bool). lineBit t (happens c x .answer) ++ lineOf w (happens c x .chip) st) z
 
-pub skip-ticks : (w : Which) (x : Event) (st : List Event) → isTick w x ≡ false → ticks w (x ∷ st) ≡ ticks w st
+pub skip-ticks : (w : Which) (x : Event) (st : List Event) → isTick w x ≡ false
+    → ticks w (x ∷ st) ≡ ticks w st
 unfolding ticks
 skip-ticks w x st z = let h : oneIf (isTick w x) ≡ 0 = ap oneIf z in omega arith
 
 -- Lengths and joins
 
 -- a story has as many line bits as ticks
-bit-length : (w : Which) (c : Chip) (e : Event) → length (lineBit (isTick w e) (happens c e .answer)) ≡ oneIf (isTick w e)
+bit-length : (w : Which) (c : Chip) (e : Event)
+    → length (lineBit (isTick w e) (happens c e .answer)) ≡ oneIf (isTick w e)
 bit-length w c e = go w (view w e)
   where
-    go : (w : Which) {e : Event} {r : Role} → View w e r → length (lineBit (ticksBy r) (happens c e .answer)) ≡ oneIf (ticksBy r)
+    go : (w : Which) {e : Event} {r : Role} → View w e r
+        → length (lineBit (ticksBy r) (happens c e .answer)) ≡ oneIf (ticksBy r)
     go A its-tick = unfold transmitCall transmitTick in refl
     go B its-tick = unfold transmitCall transmitTick in refl
     go w its-write = refl
@@ -113,11 +119,20 @@ pub line-length : (w : Which) (c : Chip) (st : List Event) → length (lineOf w 
 unfolding lineOf ticks
 line-length w c [] = refl
 line-length w c (e ∷ st) =
-    omega (arith, length-append (lineBit (isTick w e) (happens c e .answer)) (lineOf w (happens c e .chip) st), bit-length w c e, line-length w (happens c e .chip) st)
+    omega (
+      arith,
+      length-append (lineBit (isTick w e) (happens c e .answer))
+          (lineOf w (happens c e .chip) st),
+      bit-length w c e,
+      line-length w (happens c e .chip) st,
+    )
 
-pub line-join : (w : Which) (c : Chip) (xs ys : List Event) → lineOf w c (xs ++ ys) ≡ lineOf w c xs ++ lineOf w (after c xs) ys
+pub line-join : (w : Which) (c : Chip) (xs ys : List Event)
+    → lineOf w c (xs ++ ys) ≡ lineOf w c xs ++ lineOf w (after c xs) ys
 unfolding lineOf after
 line-join w c [] ys = refl
 line-join w c (x ∷ xs) ys =
-    ap (λ (l : List Bool). lineBit (isTick w x) (happens c x .answer) ++ l) (line-join w (happens c x .chip) xs ys)
-    ∙ sym (append-assoc (lineBit (isTick w x) (happens c x .answer)) (lineOf w (happens c x .chip) xs) (lineOf w (after (happens c x .chip) xs) ys))
+    ap (λ (l : List Bool). lineBit (isTick w x) (happens c x .answer) ++ l)
+    (line-join w (happens c x .chip) xs ys)
+    ∙ sym (append-assoc (lineBit (isTick w x) (happens c x .answer))
+    (lineOf w (happens c x .chip) xs) (lineOf w (after (happens c x .chip) xs) ys))

@@ -1,4 +1,5 @@
--- Which events leave a channel's sender alone: a test that a reader can run on an event, and that it is enough. Assumes nothing.
+-- Which events leave a channel's sender alone: a test that a reader can run on an event, and that
+-- it is enough. Assumes nothing.
 use mathlib.Core.Path.{_≡_, refl, sym, ap, _∙_}
 use mathlib.Core.Bool.{Bool, true, false, not, _&&_, _||_, Bool·beq}
 use Prim.Native.Nat.{ℕ, _/_}
@@ -42,19 +43,24 @@ use Rattle.channel.specs.declared.Side.the-variants as channels
 
 -- WR0: neither Send Abort nor Channel Reset, nor the sender's check preset or its latch cleared
 abbrev pub quietWr0 : ℕ → Bool
-quietWr0 v = (not (eqb (commandIn v) 1) && not (eqb (commandIn v) 3)) && (not (eqb (presetIn v) 2) && not (eqb (presetIn v) 3))
+quietWr0 v =
+    (not (eqb (commandIn v) 1) && not (eqb (commandIn v) 3))
+    && (not (eqb (presetIn v) 2) && not (eqb (presetIn v) 3))
 
--- WR3: auto enables stay. WR4: it is refused, or the mode stays. WR5: check included, on and break stay. WR1, WR2, WR6, WR7: any
+-- WR3: auto enables stay. WR4: it is refused, or the mode stays. WR5: check included, on and break
+-- stay. WR1, WR2, WR6, WR7: any
 abbrev pub quietRegister : Registers → ℕ → ℕ → Bool
 quietRegister r p v =
     if eqb p 3 then Bool·beq (odd (v / 32)) (autoEnables r)
     else (if eqb p 4 then notBuilt v || sameMode (modeIn r) (modeOf v)
-    else (if eqb p 5 then Bool·beq (odd v) (odd (r .wr5)) && (Bool·beq (odd (v / 8)) (odd (r .wr5 / 8)) && Bool·beq (odd (v / 16)) (odd (r .wr5 / 16)))
+    else (if eqb p 5 then Bool·beq (odd v) (odd (r .wr5))
+    && (Bool·beq (odd (v / 8)) (odd (r .wr5 / 8)) && Bool·beq (odd (v / 16)) (odd (r .wr5 / 16)))
     else true))
 
 -- the pointer decides what a control write is
 abbrev pub quietControl : Channel → ℕ → Bool
-quietControl c v = if eqb (c .pointer) 0 then quietWr0 v else quietRegister (c .registers) (c .pointer) v
+quietControl c v =
+    if eqb (c .pointer) 0 then quietWr0 v else quietRegister (c .registers) (c .pointer) v
 
 -- CTS counts with auto enables alone
 abbrev pub quietLines : Channel → ℕ → Bool
@@ -82,7 +88,8 @@ beq-same false true e = void e
 beq-same false false e = refl
 
 -- a choice whose test is known to fail
-if-not : {X : Type 0} (P : X → Type 0) (t : Bool) (x : X) {y : X} → not t ≡ true → P y → P (if t then x else y)
+if-not : {X : Type 0} (P : X → Type 0) (t : Bool) (x : X) {y : X} → not t ≡ true → P y
+    → P (if t then x else y)
 if-not P true x e p = void e
 if-not P false x e p = p
 
@@ -93,9 +100,12 @@ commanded-keeps : (c : Channel) (k : ℕ) → not (eqb k 1) ≡ true → Keeps c
 unfolding commanded
 commanded-keeps c k e =
     if-not (Keeps c) (eqb k 1) (withSender c (aborted (sendingIn c) (c .sender))) e
-    (if-elim (Keeps c) (eqb k 2) refl (if-elim (Keeps c) (eqb k 4) refl (if-elim (Keeps c) (eqb k 5) refl (if-elim (Keeps c) (eqb k 6) refl refl))))
+    (if-elim (Keeps c) (eqb k 2) refl
+    (if-elim (Keeps c) (eqb k 4) refl
+    (if-elim (Keeps c) (eqb k 5) refl (if-elim (Keeps c) (eqb k 6) refl refl))))
 
-preset-keeps : (c : Channel) (k : ℕ) → not (eqb k 2) ≡ true → not (eqb k 3) ≡ true → Keeps c (preset c k)
+preset-keeps : (c : Channel) (k : ℕ) → not (eqb k 2) ≡ true → not (eqb k 3) ≡ true
+    → Keeps c (preset c k)
 unfolding preset
 preset-keeps c k e f =
     if-elim (Keeps c) (eqb k 1) refl
@@ -111,25 +121,30 @@ wr0-keeps c v q =
     let r = both-right (not (eqb k 1) && not (eqb k 3)) (not (eqb j 2) && not (eqb j 3)) q in
     let d = settled c (commanded c k) in
     if-not (Keeps c) (eqb k 3) (resetWith (c .lines)) (both-right (not (eqb k 1)) (not (eqb k 3)) l)
-    (preset-keeps d j (both-left (not (eqb j 2)) (not (eqb j 3)) r) (both-right (not (eqb j 2)) (not (eqb j 3)) r)
+    (preset-keeps d j (both-left (not (eqb j 2)) (not (eqb j 3)) r)
+    (both-right (not (eqb j 2)) (not (eqb j 3)) r)
     ∙ commanded-keeps c k (both-left (not (eqb k 1)) (not (eqb k 3)) l))
 
 -- registers that say the same of sending
 abbrev heeds : Mode → Bool → Bool → Bool → Heeded
 heeds m broken on included = record { mode = m; broken = broken; framing = framing on included }
 
-wr3-keeps : (r : Registers) (l : Lines) (v : ℕ) → Bool·beq (odd (v / 32)) (autoEnables r) ≡ true → heeded (sendingOf (store3 r v) l) ≡ heeded (sendingOf r l)
+wr3-keeps : (r : Registers) (l : Lines) (v : ℕ) → Bool·beq (odd (v / 32)) (autoEnables r) ≡ true
+    → heeded (sendingOf (store3 r v) l) ≡ heeded (sendingOf r l)
 unfolding sendingOf
 wr3-keeps r l v q =
-    ap (λ (t : Bool). heeds (modeIn r) (odd (r .wr5 / 16)) (odd (r .wr5 / 8) && (not t || l .cts)) (odd (r .wr5)))
+    ap (λ (t : Bool). heeds (modeIn r) (odd (r .wr5 / 16)) (odd (r .wr5 / 8) && (not t || l .cts))
+    (odd (r .wr5)))
     (beq-same (odd (v / 32)) (autoEnables r) q)
 
-wr4-keeps : (r : Registers) (l : Lines) (v : ℕ) → modeOf v ≡ modeIn r → heeded (sendingOf (store4 r v) l) ≡ heeded (sendingOf r l)
+wr4-keeps : (r : Registers) (l : Lines) (v : ℕ) → modeOf v ≡ modeIn r
+    → heeded (sendingOf (store4 r v) l) ≡ heeded (sendingOf r l)
 unfolding sendingOf
 wr4-keeps r l v e =
     ap (λ (m : Mode). heeds m (odd (r .wr5 / 16)) (sends r l) (odd (r .wr5))) e
 
-wr5-keeps : (r : Registers) (l : Lines) (v : ℕ) → odd v ≡ odd (r .wr5) → odd (v / 8) ≡ odd (r .wr5 / 8) → odd (v / 16) ≡ odd (r .wr5 / 16)
+wr5-keeps : (r : Registers) (l : Lines) (v : ℕ) → odd v ≡ odd (r .wr5)
+    → odd (v / 8) ≡ odd (r .wr5 / 8) → odd (v / 16) ≡ odd (r .wr5 / 16)
     → heeded (sendingOf (store5 r v) l) ≡ heeded (sendingOf r l)
 unfolding sendingOf
 wr5-keeps r l v i o b = λ j. heeds (modeIn r) (b j) (o j && (not (autoEnables r) || l .cts)) (i j)
@@ -142,18 +157,24 @@ set-wr2-keeps c channels.B v = refl
 abbrev sameSender : Channel → Heeded → SenderSide
 sameSender c h = side (framerOf (c .sender)) h
 
-set-wr4-keeps : (c : Channel) (v : ℕ) → sameMode (modeIn (c .registers)) (modeOf v) ≡ true → Keeps c (setWr4 c v)
+set-wr4-keeps : (c : Channel) (v : ℕ) → sameMode (modeIn (c .registers)) (modeOf v) ≡ true
+    → Keeps c (setWr4 c v)
 unfolding setWr4
-set-wr4-keeps c v q = rw q (ap (sameSender c) (wr4-keeps (c .registers) (c .lines) v (sym (mode-same (modeIn (c .registers)) (modeOf v) q))))
+set-wr4-keeps c v q =
+    rw q (ap (sameSender c)
+    (wr4-keeps (c .registers) (c .lines) v (sym (mode-same (modeIn (c .registers)) (modeOf v) q))))
 
-register-keeps : (c : Channel) (s : Side) (p v : ℕ) → eqb p 4 && notBuilt v ≡ false → quietRegister (c .registers) p v ≡ true → Keeps c (setRegister c s p v)
+register-keeps : (c : Channel) (s : Side) (p v : ℕ) → eqb p 4 && notBuilt v ≡ false
+    → quietRegister (c .registers) p v ≡ true → Keeps c (setRegister c s p v)
 unfolding setRegister sendingOf
 register-keeps c s p v n q =
     if-elim (Keeps c) (eqb p 1) refl
     (if-elim (Keeps c) (eqb p 2) (set-wr2-keeps c s v)
     (by-test (Keeps c) (eqb p 3) (λ e. three (rw e at q))
-    (λ e3. by-test (Keeps c) (eqb p 4) (λ e. set-wr4-keeps c v (built (notBuilt v) (rw e at n) (rw (e3, e) at q)))
-    (λ e4. by-test (Keeps c) (eqb p 5) (λ e. five (rw (e3, e4, e) at q)) (λ e5. if-elim (Keeps c) (eqb p 6) refl refl)))))
+    (λ e3. by-test (Keeps c) (eqb p 4)
+    (λ e. set-wr4-keeps c v (built (notBuilt v) (rw e at n) (rw (e3, e) at q)))
+    (λ e4. by-test (Keeps c) (eqb p 5) (λ e. five (rw (e3, e4, e) at q))
+    (λ e5. if-elim (Keeps c) (eqb p 6) refl refl)))))
   where
     r : Registers
     r = c .registers
@@ -167,7 +188,9 @@ register-keeps c s p v n q =
     built true e q = void (sym e)
     built false e q = q
 
-    five : Bool·beq (odd v) (odd (r .wr5)) && (Bool·beq (odd (v / 8)) (odd (r .wr5 / 8)) && Bool·beq (odd (v / 16)) (odd (r .wr5 / 16))) ≡ true
+    five : Bool·beq (odd v) (odd (r .wr5))
+        && (Bool·beq (odd (v / 8)) (odd (r .wr5 / 8))
+        && Bool·beq (odd (v / 16)) (odd (r .wr5 / 16))) ≡ true
         → Keeps c (withRegisters c (store5 r v))
     five q =
         let i = Bool·beq (odd v) (odd (r .wr5)) in
@@ -175,26 +198,33 @@ register-keeps c s p v n q =
         let b = Bool·beq (odd (v / 16)) (odd (r .wr5 / 16)) in
         let t = both-right i (o && b) q in
         ap (sameSender c)
-        (wr5-keeps r (c .lines) v (beq-same (odd v) (odd (r .wr5)) (both-left i (o && b) q)) (beq-same (odd (v / 8)) (odd (r .wr5 / 8)) (both-left o b t))
+        (wr5-keeps r (c .lines) v (beq-same (odd v) (odd (r .wr5)) (both-left i (o && b) q))
+        (beq-same (odd (v / 8)) (odd (r .wr5 / 8)) (both-left o b t))
         (beq-same (odd (v / 16)) (odd (r .wr5 / 16)) (both-right o b t)))
 
 abbrev KeepsAnswered : Channel → Answered → Type 0
 KeepsAnswered c x = Keeps c (x .channel)
 
-control-keeps : (c : Channel) (s : Side) (v : ℕ) → quietControl c v ≡ true → KeepsAnswered c (controlWritten c s v)
+control-keeps : (c : Channel) (s : Side) (v : ℕ) → quietControl c v ≡ true
+    → KeepsAnswered c (controlWritten c s v)
 unfolding controlWritten settled
 control-keeps c s v q =
     by-test (KeepsAnswered c) (eqb (c .pointer) 0) (λ e. wr0-keeps c v (rw e at q))
-    (λ e. by-test (KeepsAnswered c) (eqb (c .pointer) 4 && notBuilt v) (λ n. refl) (λ n. register-keeps c s (c .pointer) v n (rw e at q)))
+    (λ e. by-test (KeepsAnswered c) (eqb (c .pointer) 4 && notBuilt v) (λ n. refl)
+    (λ n. register-keeps c s (c .pointer) v n (rw e at q)))
 
-lines-keep : (c : Channel) (dcd cts : Bool) → not (autoEnables (c .registers)) || Bool·beq cts (c .lines .cts) ≡ true → Keeps c (linesSet c dcd cts)
+lines-keep : (c : Channel) (dcd cts : Bool)
+    → not (autoEnables (c .registers)) || Bool·beq cts (c .lines .cts) ≡ true
+    → Keeps c (linesSet c dcd cts)
 unfolding linesSet settled sendingOf
 lines-keep c dcd cts q =
     let r = c .registers in
-    ap (λ (t : Bool). sameSender c (heeds (modeIn r) (odd (r .wr5 / 16)) (odd (r .wr5 / 8) && t) (odd (r .wr5))))
+    ap (λ (t : Bool). sameSender c
+    (heeds (modeIn r) (odd (r .wr5 / 16)) (odd (r .wr5 / 8) && t) (odd (r .wr5))))
     (either (autoEnables r) q)
   where
-    either : (t : Bool) → not t || Bool·beq cts (c .lines .cts) ≡ true → not t || cts ≡ not t || c .lines .cts
+    either : (t : Bool) → not t || Bool·beq cts (c .lines .cts) ≡ true
+        → not t || cts ≡ not t || c .lines .cts
     either true q = beq-same cts (c .lines .cts) q
     either false q = refl
 
@@ -215,11 +245,14 @@ abbrev KeepsOutcome : Which → Chip → Outcome → Type 0
 KeepsOutcome w c x = sideOf w (x .chip) ≡ sideOf w c
 
 -- a call by its channel
-pub by-channel : (P : Outcome → Type 0) (c : Chip) (ch : ℕ) {a b : Outcome} → P (refused c refusal.Channel) → (eqb ch 0 ≡ true → P a) → (eqb ch 1 ≡ true → P b)
+pub by-channel : (P : Outcome → Type 0) (c : Chip) (ch : ℕ) {a b : Outcome}
+    → P (refused c refusal.Channel) → (eqb ch 0 ≡ true → P a) → (eqb ch 1 ≡ true → P b)
     → P (byChannel c ch a b)
 by-channel P c ch r f g = by-test P (eqb ch 0) f (λ z. by-test P (eqb ch 1) g (λ o. r))
 
-write-keeps : (w : Which) (c : Chip) (ch v : ℕ) → (if eqb ch (number w) then quietControl (chan w c) v else true) ≡ true → KeepsOutcome w c (controlWrite c ch v)
+write-keeps : (w : Which) (c : Chip) (ch v : ℕ)
+    → (if eqb ch (number w) then quietControl (chan w c) v else true) ≡ true
+    → KeepsOutcome w c (controlWrite c ch v)
 unfolding controlWrite controlWriteA
 write-keeps A c ch v q =
     by-channel (KeepsOutcome A c) c ch refl
@@ -231,37 +264,49 @@ write-keeps B c ch v q =
     (λ e. refl)
     (λ e. control-keeps (c .b) channels.B v (rw e at q))
 
-set-lines-keep : (w : Which) (c : Chip) (ch dcd cts : ℕ) → (if eqb ch (number w) then quietLines (chan w c) cts else true) ≡ true
+set-lines-keep : (w : Which) (c : Chip) (ch dcd cts : ℕ)
+    → (if eqb ch (number w) then quietLines (chan w c) cts else true) ≡ true
     → KeepsOutcome w c (linesCall c ch dcd cts)
 unfolding linesCall
 set-lines-keep A c ch dcd cts q =
     by-channel (KeepsOutcome A c) c ch refl
-    (λ e. if-elim (λ (x : Answered). KeepsOutcome A c (inA c x)) (leb 2 dcd || leb 2 cts) refl (lines-keep (c .a) (onLevel dcd) (onLevel cts) (rw e at q)))
+    (λ e. if-elim (λ (x : Answered). KeepsOutcome A c (inA c x)) (leb 2 dcd || leb 2 cts) refl
+    (lines-keep (c .a) (onLevel dcd) (onLevel cts) (rw e at q)))
     (λ e. refl)
 set-lines-keep B c ch dcd cts q =
     by-channel (KeepsOutcome B c) c ch refl
     (λ e. refl)
-    (λ e. if-elim (λ (x : Answered). KeepsOutcome B c (inB c x)) (leb 2 dcd || leb 2 cts) refl (lines-keep (c .b) (onLevel dcd) (onLevel cts) (rw e at q)))
+    (λ e. if-elim (λ (x : Answered). KeepsOutcome B c (inB c x)) (leb 2 dcd || leb 2 cts) refl
+    (lines-keep (c .b) (onLevel dcd) (onLevel cts) (rw e at q)))
 
 -- a quiet event leaves the sender's side as it was
-pub quiet-keeps : (w : Which) (c : Chip) (e : Event) → quiet w c e ≡ true → sideOf w (happens c e .chip) ≡ sideOf w c
+pub quiet-keeps : (w : Which) (c : Chip) (e : Event) → quiet w c e ≡ true
+    → sideOf w (happens c e .chip) ≡ sideOf w c
 unfolding controlReadCall dataWriteCall dataReadCall transmitCall receiveCall acknowledge reti
 quiet-keeps w c HardReset q = void q
 quiet-keeps w c (ControlWrite ch v) q = write-keeps w c ch v q
 quiet-keeps A c (ControlRead ch) q = by-channel (KeepsOutcome A c) c ch refl (λ e. refl) (λ e. refl)
 quiet-keeps B c (ControlRead ch) q = by-channel (KeepsOutcome B c) c ch refl (λ e. refl) (λ e. refl)
-quiet-keeps A c (DataWrite ch v) q = by-channel (KeepsOutcome A c) c ch refl (λ e. void (sym (ap not e) ∙ q)) (λ e. refl)
-quiet-keeps B c (DataWrite ch v) q = by-channel (KeepsOutcome B c) c ch refl (λ e. refl) (λ e. void (sym (ap not e) ∙ q))
-quiet-keeps A c (DataRead ch) q = by-channel (KeepsOutcome A c) c ch refl (λ e. read-keeps (c .a)) (λ e. refl)
-quiet-keeps B c (DataRead ch) q = by-channel (KeepsOutcome B c) c ch refl (λ e. refl) (λ e. read-keeps (c .b))
-quiet-keeps A c (Transmit ch) q = by-channel (KeepsOutcome A c) c ch refl (λ e. void (sym (ap not e) ∙ q)) (λ e. refl)
-quiet-keeps B c (Transmit ch) q = by-channel (KeepsOutcome B c) c ch refl (λ e. refl) (λ e. void (sym (ap not e) ∙ q))
+quiet-keeps A c (DataWrite ch v) q =
+    by-channel (KeepsOutcome A c) c ch refl (λ e. void (sym (ap not e) ∙ q)) (λ e. refl)
+quiet-keeps B c (DataWrite ch v) q =
+    by-channel (KeepsOutcome B c) c ch refl (λ e. refl) (λ e. void (sym (ap not e) ∙ q))
+quiet-keeps A c (DataRead ch) q =
+    by-channel (KeepsOutcome A c) c ch refl (λ e. read-keeps (c .a)) (λ e. refl)
+quiet-keeps B c (DataRead ch) q =
+    by-channel (KeepsOutcome B c) c ch refl (λ e. refl) (λ e. read-keeps (c .b))
+quiet-keeps A c (Transmit ch) q =
+    by-channel (KeepsOutcome A c) c ch refl (λ e. void (sym (ap not e) ∙ q)) (λ e. refl)
+quiet-keeps B c (Transmit ch) q =
+    by-channel (KeepsOutcome B c) c ch refl (λ e. refl) (λ e. void (sym (ap not e) ∙ q))
 quiet-keeps A c (Receive ch bit) q =
     by-channel (KeepsOutcome A c) c ch refl
-    (λ e. if-elim (λ (x : Answered). KeepsOutcome A c (inA c x)) (leb 2 bit) refl (receive-keeps (c .a) (onLevel bit))) (λ e. refl)
+    (λ e. if-elim (λ (x : Answered). KeepsOutcome A c (inA c x)) (leb 2 bit) refl
+    (receive-keeps (c .a) (onLevel bit))) (λ e. refl)
 quiet-keeps B c (Receive ch bit) q =
     by-channel (KeepsOutcome B c) c ch refl (λ e. refl)
-    (λ e. if-elim (λ (x : Answered). KeepsOutcome B c (inB c x)) (leb 2 bit) refl (receive-keeps (c .b) (onLevel bit)))
+    (λ e. if-elim (λ (x : Answered). KeepsOutcome B c (inB c x)) (leb 2 bit) refl
+    (receive-keeps (c .b) (onLevel bit)))
 quiet-keeps w c (SetLines ch dcd cts) q = set-lines-keep w c ch dcd cts q
 quiet-keeps w c Acknowledge q = service-keeps w c (acknowledged (pendingOf c) (serviceOf c))
 quiet-keeps w c Reti q = service-keeps w c (ended (serviceOf c))

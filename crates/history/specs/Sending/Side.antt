@@ -22,8 +22,8 @@ use Rattle.stories.specs.Story.{Which, number, chan}
 use Rattle.stories.specs.Sent.{Role, Ticks, Writes, Else, role}
 use Rattle.whole.specs.Come as come
 
--- what SDLC heeds of the settings: "In SDLC all characters have eight bits and no parity .. no matter what
--- WR3, WR4, WR5 and WR7 hold"
+-- what SDLC heeds of the settings: "In SDLC all characters have eight bits and no parity .. no
+-- matter what WR3, WR4, WR5 and WR7 hold"
 pub record Heeded : Type 0 where
   pub mode : Mode
   pub broken : Bool
@@ -46,7 +46,12 @@ good-of g e = record {
 
 pub good-heeded : (g : Sending) → Good g → heeded g ≡ good
 good-heeded g h =
-    λ i. record { mode = h .sdlc-mode i; broken = h .no-break i; framing = framing (h .on i) (h .included i) }
+    λ i. record {
+      mode = h .sdlc-mode i;
+      broken = h .no-break i;
+      framing = framing (h .on i)
+          (h .included i);
+    }
 
 pub record SenderSide : Type 0 where
   pub sender : Framer
@@ -70,7 +75,8 @@ fullOf w c = chan w c .sender .shared .full
 abbrev pub latchOf : Which → Chip → Bool
 latchOf w c = chan w c .sender .shared .latch
 
--- What an event is to this sender, as something to match on: a proof by roles has three cases, whatever the number of events
+-- What an event is to this sender, as something to match on: a proof by roles has three cases,
+-- whatever the number of events
 pub data View (w : Which) : Event → Role → Type 0 where
   its-tick : View w (Transmit (number w)) Ticks
   its-write : {v : ℕ} → View w (DataWrite (number w) v) (Writes v)

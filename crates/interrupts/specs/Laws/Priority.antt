@@ -91,7 +91,8 @@ module _ (x : Six) where
   pub highest-least : (k : ℕ) → sourceAt x k ≡ true → highest x ≤ k
   highest-least k e =
       let test : ℕ → Bool = λ k. not (sourceAt x k) || leb (highest x) k in
-      let low = below→ test noLevel (and-right (leb (highest x) noLevel) _ rest) k (source-below k e) in
+      let low =
+      below→ test noLevel (and-right (leb (highest x) noLevel) _ rest) k (source-below k e) in
       leb→le (highest x) k (implied (sourceAt x k) (leb (highest x) k) low e)
 
 -- 4: "acknowledge with no pending source above all those in service"

@@ -57,7 +57,8 @@ unfolding fromLow lowBits
 fromLow-mod zero v = omega arith
 fromLow-mod (suc n) v =
     let low : v % 2 ^ suc n ≡ v / 2 % 2 ^ n * 2 + v % 2 =
-    ap (λ (x : ℕ). v % x) (pow-suc 2 n) ∙ mod-mul v {m = 2 ^ n} {c = 2} (pow-pos n) (zero-lt-suc 1) in
+    ap (λ (x : ℕ). v % x) (pow-suc 2 n)
+    ∙ mod-mul v {m = 2 ^ n} {c = 2} (pow-pos n) (zero-lt-suc 1) in
     ap₂ (λ (x y : ℕ). x * 2 + y) (fromLow-mod n (v / 2)) (odd-is v) ∙ sym low
 
 pub fromLow-lowBits : (n v : ℕ) → v < 2 ^ n → fromLow (lowBits n v) ≡ v

@@ -1,4 +1,5 @@
--- Laws of a note's frame: its ticks, its inserted zeros, and that it is the frame of one note alone. Assumes nothing.
+-- Laws of a note's frame: its ticks, its inserted zeros, and that it is the frame of one note
+-- alone. Assumes nothing.
 use mathlib.Core.Path.{_≡_, refl, sym, ap, _∙_}
 use mathlib.Core.List.{List, [], _∷_, _++_, append-nil, append-cancel-left, append-cancel-right}
 use mathlib.Core.Bool.{Bool}
@@ -11,14 +12,20 @@ use Rattle.line.specs.Check.{sdlc, ones, checkOver, checkBits, remainder
 use Rattle.line.specs.Insertion.{stuff, zeros, unstuff}
 use Rattle.line.specs.Frame.{flagBits, noteBits, checkOf, contentOf, checkBytes, withCheck}
 use Rattle.line.specs.Frame.{frame, zerosOf, ticksOf}
-use Rattle.line.specs.Laws.Bits.{lowBits-fromLow, textBits-join, textBits-length, textBits-same}
+use Rattle.line.specs.Laws.Bits.{lowBits-fromLow, textBits-join, textBits-length}
+use Rattle.line.specs.Laws.Bits.{textBits-same}
 use Rattle.line.specs.Laws.Check.{checkBits-length, check-good}
 use Rattle.line.specs.Laws.Insertion.{stuff-length, zeros-bound, unstuff-stuff}
 
 pub content-length : (note : List ℕ) → length (contentOf note) ≡ 8 * (length note + 2)
 content-length note =
     let k = checkOf note in
-    omega (arith, length-append (noteBits note) (checkBits k), textBits-length 8 note, checkBits-length k)
+    omega (
+      arith,
+      length-append (noteBits note) (checkBits k),
+      textBits-length 8 note,
+      checkBits-length k,
+    )
 
 -- demand 3: "8(n+2)+16+z ticks, z the zeros inserted, at most 8(n+2)/5 rounded down"
 pub ticks-are : (note : List ℕ) → ticksOf note ≡ 8 * (length note + 2) + 16 + zerosOf note
@@ -55,13 +62,17 @@ pub frame-same : {xs ys : List ℕ} → Below 256 xs → Below 256 ys → frame 
 frame-same {xs} {ys} bx by e =
     let inner : stuff 0 (contentOf xs) ≡ stuff 0 (contentOf ys) =
     append-cancel-right (stuff 0 (contentOf xs)) (stuff 0 (contentOf ys)) flagBits
-    (append-cancel-left flagBits (stuff 0 (contentOf xs) ++ flagBits) (stuff 0 (contentOf ys) ++ flagBits) e) in
+    (append-cancel-left flagBits (stuff 0 (contentOf xs) ++ flagBits)
+    (stuff 0 (contentOf ys) ++ flagBits) e) in
     let content : contentOf xs ≡ contentOf ys =
-    sym (unstuff-stuff 0 (contentOf xs) (omega arith)) ∙ ap (unstuff 0) inner ∙ unstuff-stuff 0 (contentOf ys) (omega arith) in
-    let n : length xs ≡ length ys = omega (arith, content-length xs, content-length ys, ap length content) in
+    sym (unstuff-stuff 0 (contentOf xs) (omega arith)) ∙ ap (unstuff 0) inner
+    ∙ unstuff-stuff 0 (contentOf ys) (omega arith) in
+    let n : length xs ≡ length ys =
+    omega (arith, content-length xs, content-length ys, ap length content) in
     let lx : length (noteBits xs) ≡ 8 * length xs = textBits-length 8 xs in
     let ly : length (noteBits ys) ≡ 8 * length xs = textBits-length 8 ys ∙ omega arith in
     let bits : noteBits xs ≡ noteBits ys =
-    sym (take-at (noteBits xs) (checkBits (checkOf xs)) (8 * length xs) lx) ∙ ap (take (8 * length xs)) content
+    sym (take-at (noteBits xs) (checkBits (checkOf xs)) (8 * length xs) lx)
+    ∙ ap (take (8 * length xs)) content
     ∙ take-at (noteBits ys) (checkBits (checkOf ys)) (8 * length xs) ly in
     textBits-same 8 bx by n bits

@@ -1,4 +1,5 @@
--- Laws of zero insertion, over any stream of bits: joining, lengths, the way back, and no six ones in a row. Assumes nothing.
+-- Laws of zero insertion, over any stream of bits: joining, lengths, the way back, and no six ones
+-- in a row. Assumes nothing.
 use mathlib.Core.Path.{_≡_, refl, sym, ap, _∙_}
 use mathlib.Core.Logic.{_≢_}
 use mathlib.Core.Bool.{Bool, true, false, not}
@@ -14,13 +15,19 @@ use Rattle.line.specs.Bits.{oneIf}
 use Rattle.line.specs.Insertion.{owes, runAfter, counted, zeroIf, stuff, zeros, runOver}
 use Rattle.line.specs.Insertion.{seen, kept, unstuff}
 
-pub stuff-join : (run : ℕ) (xs ys : List Bool) → stuff run (xs ++ ys) ≡ stuff run xs ++ stuff (runOver run xs) ys
+pub stuff-join : (run : ℕ) (xs ys : List Bool)
+    → stuff run (xs ++ ys) ≡ stuff run xs ++ stuff (runOver run xs) ys
 unfolding stuff runOver
 stuff-join run [] ys = refl
 stuff-join run (x ∷ xs) ys =
-    rw (stuff-join (runAfter run x) xs ys, append-assoc (zeroIf (owes run x)) (stuff (runAfter run x) xs) (stuff (runOver (runAfter run x) xs) ys))
+    rw (
+      stuff-join (runAfter run x) xs ys,
+      append-assoc (zeroIf (owes run x)) (stuff (runAfter run x) xs)
+          (stuff (runOver (runAfter run x) xs) ys),
+    )
 
-pub runOver-join : (run : ℕ) (xs ys : List Bool) → runOver run (xs ++ ys) ≡ runOver (runOver run xs) ys
+pub runOver-join : (run : ℕ) (xs ys : List Bool)
+    → runOver run (xs ++ ys) ≡ runOver (runOver run xs) ys
 unfolding runOver
 runOver-join run [] ys = refl
 runOver-join run (x ∷ xs) ys = runOver-join (runAfter run x) xs ys
@@ -33,7 +40,12 @@ pub stuff-length : (run : ℕ) (bs : List Bool) → length (stuff run bs) ≡ le
 unfolding stuff zeros
 stuff-length run [] = refl
 stuff-length run (b ∷ bs) =
-    omega (arith, length-append (zeroIf (owes run b)) (stuff (runAfter run b) bs), stuff-length (runAfter run b) bs, zeroIf-length (owes run b))
+    omega (
+      arith,
+      length-append (zeroIf (owes run b)) (stuff (runAfter run b) bs),
+      stuff-length (runAfter run b) bs,
+      zeroIf-length (owes run b),
+    )
 
 -- a run that a history made stays below five
 pub runOver-lt : (run : ℕ) (bs : List Bool) → run < 5 → runOver run bs < 5
@@ -51,7 +63,8 @@ unfolding zeros
 zeros-bound run [] = omega arith
 zeros-bound run (false ∷ bs) = omega (arith, zeros-bound 0 bs)
 zeros-bound run (true ∷ bs) =
-    ltb-elim (λ t. 5 * (oneIf (not t) + zeros (if t then run + 1 else 0) bs) ≤ run + suc (length bs)) run 4
+    ltb-elim (λ t. 5 * (oneIf (not t) + zeros (if t then run + 1 else 0) bs) ≤ run + suc
+    (length bs)) run 4
     (λ l. omega (arith, zeros-bound (run + 1) bs))
     (λ l. omega (arith, zeros-bound 0 bs))
 
@@ -70,11 +83,14 @@ zeros-most run (true ∷ bs) =
 pub unstuff-stuff : (run : ℕ) (bs : List Bool) → run < 5 → unstuff run (stuff run bs) ≡ bs
 unfolding stuff unstuff
 unstuff-stuff run [] h = refl
-unstuff-stuff run (false ∷ bs) h = rw (ne-eqb run 5 (λ e. omega arith)) (ap (λ (l : List Bool). false ∷ l) (unstuff-stuff 0 bs (omega arith)))
+unstuff-stuff run (false ∷ bs) h =
+    rw (ne-eqb run 5 (λ e. omega arith))
+    (ap (λ (l : List Bool). false ∷ l) (unstuff-stuff 0 bs (omega arith)))
 unstuff-stuff run (true ∷ bs) h =
     rw (ne-eqb run 5 (λ e. omega arith))
     (ap (λ (l : List Bool). true ∷ l)
-    (ltb-elim (λ t. unstuff (run + 1) (zeroIf (not t) ++ stuff (if t then run + 1 else 0) bs) ≡ bs) run 4
+    (ltb-elim (λ t. unstuff (run + 1) (zeroIf (not t) ++ stuff (if t then run + 1 else 0) bs)
+    ≡ bs) run 4
     (λ l. unstuff-stuff (run + 1) bs (omega arith))
     (λ l. let e : run ≡ 4 = omega arith in rw e (unstuff-stuff 0 bs (omega arith)))))
 

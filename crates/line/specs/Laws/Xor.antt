@@ -1,4 +1,5 @@
--- Laws of exclusive or, of numbers and of Bools, that the check's laws stand on and the library lacks. Assumes nothing.
+-- Laws of exclusive or, of numbers and of Bools, that the check's laws stand on and the library
+-- lacks. Assumes nothing.
 use mathlib.Core.Path.{_≡_, refl, sym, ap, ap₂, _∙_}
 use mathlib.Core.Bool.{Bool, true, false, not, Bool·beq}
 use Prim.Native.Nat.{ℕ, _*_, _+_, _/_, _%_, _<_}
@@ -33,11 +34,13 @@ xor-assoc = bin-ind (λ a. (b c : ℕ) → bitXor (bitXor a b) c ≡ bitXor a (b
     xor-step (bitXor a b) c
     ∙ ap₂ (λ (x y : ℕ). x * 2 + y)
     (rw (xor-shr a b 1, xor-shr b c 1) (ih (b / 2) (c / 2)))
-    (rw (xor-low a b, xor-low b c) (differ-assoc (a % 2) (b % 2) (c % 2) (low-bit a) (low-bit b) (low-bit c)))
+    (rw (xor-low a b, xor-low b c)
+    (differ-assoc (a % 2) (b % 2) (c % 2) (low-bit a) (low-bit b) (low-bit c)))
     ∙ sym (xor-step a (bitXor b c))
 
 pub xor-left-comm : (a b c : ℕ) → bitXor a (bitXor b c) ≡ bitXor b (bitXor a c)
-xor-left-comm a b c = sym (xor-assoc a b c) ∙ ap (λ (x : ℕ). bitXor x c) (xor-comm a b) ∙ xor-assoc b a c
+xor-left-comm a b c =
+    sym (xor-assoc a b c) ∙ ap (λ (x : ℕ). bitXor x c) (xor-comm a b) ∙ xor-assoc b a c
 
 -- the two parts of a register that a step looks at
 
@@ -70,8 +73,13 @@ not-differs true = refl
 not-differs false = refl
 
 -- an equation of four Bools, by its sixteen cases, computed
-pub differs-four : (a b c d : Bool) → differs (differs a b) (differs c d) ≡ differs (differs a c) (differs b d)
-differs-four a b c d = beq→ _ _ (both-of→ (λ d. f a b c d) (both-of→ (λ c. both-of λ d. f a b c d) (both-of→ (λ b. both-of λ c. both-of λ d. f a b c d) (both-of→ (λ a. both-of λ b. both-of λ c. both-of λ d. f a b c d) tt a) b) c) d)
+pub differs-four : (a b c d : Bool)
+    → differs (differs a b) (differs c d) ≡ differs (differs a c) (differs b d)
+differs-four a b c d =
+    beq→ _ _ (both-of→ (λ d. f a b c d)
+    (both-of→ (λ c. both-of λ d. f a b c d)
+    (both-of→ (λ b. both-of λ c. both-of λ d. f a b c d)
+    (both-of→ (λ a. both-of λ b. both-of λ c. both-of λ d. f a b c d) tt a) b) c) d)
   where
     f : Bool → Bool → Bool → Bool → Bool
     f a b c d = Bool·beq (differs (differs a b) (differs c d)) (differs (differs a c) (differs b d))

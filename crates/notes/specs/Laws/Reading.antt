@@ -1,5 +1,5 @@
--- Laws of reading a list: the reading from a place on, the scan's answer, and a walk over the notes.
--- Assumes nothing.
+-- Laws of reading a list: the reading from a place on, the scan's answer, and a walk over the
+-- notes. Assumes nothing.
 use mathlib.Core.Path.{_≡_, refl, sym, ap, _∙_}
 use mathlib.Core.Bool.{true, not}
 use mathlib.Core.List.{List, [], _∷_, foldl}
@@ -91,8 +91,8 @@ scanned-size list n e =
 -- walk
 
 -- A loop that goes from note to note with a state has the invariant that its state, walked over the
--- rest of the list, gives what its first state gave over the whole. It starts by scanned-rest; these are
--- its turn and its ends.
+-- rest of the list, gives what its first state gave over the whole. It starts by scanned-rest;
+-- these are its turn and its ends.
 
 module _ {S A : Type 0} (step : S → List ℕ → S) (finish : S → A) (refused : Refusal → A) where
   walk-front : (s : S) (note : List ℕ) (r : Reading)

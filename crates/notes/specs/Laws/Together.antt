@@ -26,8 +26,8 @@ use Rattle.notes.specs.Laws.Reading.{rest-end, rest-note}
 
 -- From a list to its notes and back
 
--- what a reading says of the bytes that were read: its notes, put together, are these bytes, and all
--- of them fit
+-- what a reading says of the bytes that were read: its notes, put together, are these bytes, and
+-- all of them fit
 abbrev ReadWell : (List (List ℕ) → List ℕ) → List ℕ → Reading → Type 0
 ReadWell together bytes (whole notes) = (together notes ≡ bytes) × AllFit notes
 ReadWell together bytes (refuses k) = Unit
@@ -68,8 +68,10 @@ module _ (list : List ℕ) (b : Below 256 list) where
   unfolding notesBytes
   front-well i (whole notes) fits here well =
       let e = textAt-length list i (lengthAt list i) here in
-      let fit : noteFits (length (textAt list i (lengthAt list i))) ≡ true = rw e fits in
-      (rw (e, well .0) (sym (note-bytes list i (lengthAt list i) refl b here)), fits-more fit (well .1))
+      let fit : noteFits (length (textAt list i (lengthAt list i))) ≡ true = rw e fits in (
+        rw (e, well .0) (sym (note-bytes list i (lengthAt list i) refl b here)),
+        fits-more fit (well .1),
+      )
   front-well i (refuses k) fits here well = tt
 
   read-well : (most i : ℕ) → length list ≤ i + most
@@ -101,7 +103,8 @@ list-well (v ∷ bytes) b =
     if-elim (ReadWell listOf list) (ltb longestList (length list)) tt
     (rw (eqb·suc-zero (length bytes))
     (eqb-elim
-    (λ t. ReadWell listOf list (if not t then refuses NoList else restFrom list firstNote)) v version
+    (λ t. ReadWell listOf list
+    (if not t then refuses NoList else restFrom list firstNote)) v version
     (λ e. version-well v bytes (restFrom list firstNote) e
     (read-well list b (length list) firstNote (omega arith)))
     (λ other. tt)))
@@ -129,7 +132,8 @@ rest-back (note ∷ notes) list i (fits-more fits all) d =
     sym (drop-drop lengthBytes i list) ∙ ap (drop lengthBytes) d in
     let size = length-append note (notesBytes notes) in
     let here : i + lengthBytes + k ≤ length list = omega (arith, length-drop i list, ap length d) in
-    let text : textAt list i k ≡ note = ap (take k) after ∙ take-append-seam note (notesBytes notes) in
+    let text : textAt list i k ≡ note =
+    ap (take k) after ∙ take-append-seam note (notesBytes notes) in
     let rest : drop (i + lengthBytes + k) list ≡ notesBytes notes =
     sym (drop-drop k (i + lengthBytes) list) ∙ ap (drop k) after
     ∙ drop-append-seam note (notesBytes notes) in

@@ -21,7 +21,8 @@ hear-sdlc g s b m o = ap (λ (k : Mode). hearIn k g s b) m ∙ rw o
 abbrev PlainHeard : Heard → Type 0
 PlainHeard h = Plain (h .entry)
 
-pub hear-plain : (g : Receiving) → g .mode ≡ Sdlc → (s : Receiver) (b : Bool) → Plain (hear g s b .entry)
+pub hear-plain : (g : Receiving) → g .mode ≡ Sdlc → (s : Receiver) (b : Bool)
+    → Plain (hear g s b .entry)
 unfolding hear
 hear-plain g m s b =
     let e : hear g s b ≡ hearIn Sdlc g s b = ap (λ (k : Mode). hearIn k g s b) m in

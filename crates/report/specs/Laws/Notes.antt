@@ -11,7 +11,8 @@ use Rattle.head.specs.declared.Head.{Head}
 use Rattle.head.specs.declared.Head.the-variants.{End, Note, Bad}
 use Rattle.notes.specs.declared.Scanned.the-variants.{Notes, Refused}
 use Rattle.head.specs.NoteHead.{lengthBytes, lengthAt, textAt, headOf, noteAt}
-use Rattle.notes.specs.NoteList.{Reading, whole, refuses, inFront, readHead, restFrom, scanned, walk}
+use Rattle.notes.specs.NoteList.{Reading, whole, refuses, inFront, readHead, restFrom, scanned}
+use Rattle.notes.specs.NoteList.{walk}
 use Rattle.notes.specs.Laws.Reading.{rest-head}
 use Rattle.head.specs.Laws.{noteAt-note}
 use Rattle.head.specs.Laws.{head-elim, textAt-length}
@@ -83,7 +84,8 @@ module _ {S A : Type 0} (step : S → List ℕ → S) (finish : S → A) (refuse
       let k = length (noteAt list i) in
       let rest = restFrom list (i + lengthBytes + k) in
       walk-note step finish refused s list i k (x .head)
-      ∙ ap (λ (t : List ℕ). walk step finish refused (step s t) rest) (sym (noteAt-note list i k (x .head)))
+      ∙ ap (λ (t : List ℕ). walk step finish refused (step s t) rest)
+      (sym (noteAt-note list i k (x .head)))
 
   pub walk-last : (s : S) (list : List ℕ) (i n : ℕ) → n ≤ 0 → scanned (restFrom list i) ≡ Notes n
       → walk step finish refused s (restFrom list i) ≡ finish s

@@ -35,7 +35,8 @@ abbrev SoundFramed : Framed → Type 0
 SoundFramed t = SoundFramer (t .framer)
 
 run-few : (r : ℕ) (b : Bool) → runAfter r b < 5
-run-few r true = ltb-elim (λ t. (if t then r + 1 else 0) < 5) r 4 (λ l. omega arith) (λ l. omega arith)
+run-few r true =
+    ltb-elim (λ t. (if t then r + 1 else 0) < 5) r 4 (λ l. omega arith) (λ l. omega arith)
 run-few r false = omega arith
 
 paid-sound : (u : LineUnit) (i : Insertion) → SoundUnit u i → SoundUnit u (paid i)
@@ -111,7 +112,13 @@ accept-sound : (g : Addressing) (c : Chars) (k o : ℕ) (x : Bool) (d : ℕ) (b 
 unfolding accept
 accept-sound g c k o x d b a l f =
     by-test SoundListened (ltb (c .count) lastBit)
-    (λ e. record { run = a; led = l; fits = f; part = omega (arith, ltb-true (c .count) lastBit e) })
+    (λ e. record {
+      run = a;
+      led = l;
+      fits = f;
+      part = omega
+          (arith, ltb-true (c .count) lastBit e);
+    })
     (λ e. if-elim SoundListened (wrong g (c .have) _) (content-at-sound false true o a)
     (record { run = a; led = l; fits = f; part = omega arith }))
 
@@ -135,7 +142,8 @@ module _ (g : Addressing) (s : Listener) (t : SoundContent (s .content)) where
   one-sound =
       let c = s .content in
       if-elim SoundListened (c .hunt)
-      (ltb-elim (λ q. SoundContent (withOnes s (if q then c .ones + 1 else 7) (s .broken) .content)) (c .ones) 7
+      (ltb-elim (λ q. SoundContent (withOnes s (if q then c .ones + 1 else 7) (s .broken) .content))
+      (c .ones) 7
       (λ l. ones-sound s (c .ones + 1) (s .broken) (omega arith) t)
       (λ l. ones-sound s 7 (s .broken) (omega arith) t))
       (by-test SoundListened (ltb (c .ones) 6)

@@ -20,7 +20,8 @@ use Rattle.sdlc.specs.declared.Framing.{Framing}
 use Rattle.sdlc.specs.declared.Framer.{Framer}
 use Rattle.sdlc.specs.Sending.{insertion, notCounted, paid, framer, sentBit}
 use Rattle.sdlc.specs.Sending.{startMark, startFlag, startByte, startCheck, following, next}
-use Rattle.sdlc.specs.Sending.{noBitLeft, flagBit, going, tickSdlc, aborting, cutShort, abortedBy}
+use Rattle.sdlc.specs.Sending.{noBitLeft, flagBit, going, tickSdlc, aborting, cutShort}
+use Rattle.sdlc.specs.Sending.{abortedBy}
 
 -- A tick while a unit is under way
 
@@ -31,7 +32,8 @@ module _ (g : Framing) (k : Shared) where
   tick-owed u r = refl
 
   pub tick-flag : (n r : ℕ)
-      → tickSdlc g (framer (Flag (suc n)) (insertion r false) k) ≡ sentBit (flagBit (suc n)) (Flag n) notCounted k
+      → tickSdlc g (framer (Flag (suc n)) (insertion r false) k)
+      ≡ sentBit (flagBit (suc n)) (Flag n) notCounted k
   unfolding tickSdlc going
   tick-flag n r = let p : suc n - 1 ≡ n = omega arith in rw (eqb·suc-zero n, p)
 
@@ -48,7 +50,8 @@ module _ (g : Framing) (k : Shared) where
   tick-check n v r = let p : suc n - 1 ≡ n = omega arith in rw (eqb·suc-zero n, p)
 
   pub tick-abort : (n r : ℕ)
-      → tickSdlc g (framer (Abort (suc n)) (insertion r false) k) ≡ sentBit true (Abort n) notCounted k
+      → tickSdlc g (framer (Abort (suc n)) (insertion r false) k)
+      ≡ sentBit true (Abort n) notCounted k
   unfolding tickSdlc going
   tick-abort n r = let p : suc n - 1 ≡ n = omega arith in rw (eqb·suc-zero n, p)
 

@@ -30,7 +30,8 @@ sdlc-within g s w =
     ap (λ (t : Framed). if s .insertion .owed then owed else t) (byte (s .unit) w)
   where
     byte : (u : LineUnit) → within (framer u (s .insertion) (s .shared)) ≡ true
-        → going g u (s .insertion .run) (s .shared) ≡ byteOn (byteLeft u) (byteRest u) (s .insertion .run) (s .shared)
+        → going g u (s .insertion .run) (s .shared)
+        ≡ byteOn (byteLeft u) (byteRest u) (s .insertion .run) (s .shared)
     byte Mark e = void e
     byte (Flag n) e = void e
     byte (Byte n v) e = rw (not-true (eqb n 0) e)
@@ -45,7 +46,8 @@ within-loaded s = if-elim (λ (t : Framed). t .loaded ≡ false) (s .insertion .
 pub within-latch : (s : Framer) → tickWithin s .framer .shared .latch ≡ s .shared .latch
 unfolding tickWithin
 within-latch s =
-    if-elim (λ (t : Framed). t .framer .shared .latch ≡ s .shared .latch) (s .insertion .owed) refl refl
+    if-elim (λ (t : Framed). t .framer .shared .latch ≡ s .shared .latch)
+    (s .insertion .owed) refl refl
 
 -- Receiving: what the test says, and the tick then
 
@@ -77,7 +79,8 @@ inside s b w =
     }
 
 pushed-within : (g : Addressing) (s : Listener) (o : ℕ) (b : Bool)
-    → ltb (s .content .delay) fullDelay ≡ false → ltb (s .content .chars .count) lastBit ≡ true → (x : Bool)
+    → ltb (s .content .delay) fullDelay ≡ false → ltb (s .content .chars .count) lastBit ≡ true
+    → (x : Bool)
     → let c = s .content .chars in
     let out = oldestBit (s .content .delay) in
     let more = chars (c .count + 1) (shiftIn out (c .part)) (c .have) (c .held) in

@@ -13,11 +13,13 @@ use Rattle.sdlc.specs.Laws.Sound as frames
 use Rattle.sender.specs.declared.Sender.{Sender}
 use Rattle.sender.specs.declared.Sending.{Sending}
 use Rattle.sender.specs.declared.Ticked.{Ticked}
-use Rattle.sender.specs.Sender.{framerOf, withBreak, tickInBlocks, tickIn, tick, written, aborted, checkPreset}
+use Rattle.sender.specs.Sender.{framerOf, withBreak, tickInBlocks, tickIn, tick, written}
+use Rattle.sender.specs.Sender.{aborted, checkPreset}
 use Rattle.sender.specs.Sender.{latchCleared, idled, atReset}
 use Rattle.sender.specs.Sound.{SoundSender}
 
-break-sound : (b : Bool) (t : Ticked) → SoundSender (t .sender) → SoundSender (withBreak b t .sender)
+break-sound : (b : Bool) (t : Ticked) → SoundSender (t .sender)
+    → SoundSender (withBreak b t .sender)
 break-sound true t h = h
 break-sound false t h = h
 

@@ -1,4 +1,5 @@
--- A tick in each mode, and Send Abort: the modes' own laws speak of what happens within. Assumes nothing.
+-- A tick in each mode, and Send Abort: the modes' own laws speak of what happens within. Assumes
+-- nothing.
 use mathlib.Core.Path.{_≡_}
 use mathlib.Core.Bool.{Bool, true, false}
 use Rattle.common.specs.Mode.{inSdlc}
@@ -18,7 +19,8 @@ module _ (g : Sending) (s : Sender) where
   tick-sdlc m = rw m
 
   pub tick-asynchronous : g .mode ≡ Asynchronous
-      → tick g s ≡ withBreak (g .broken) (byTypist s (tickCharacter (g .typing) (s .character) (s .shared)))
+      → tick g s ≡ withBreak (g .broken)
+      (byTypist s (tickCharacter (g .typing) (s .character) (s .shared)))
   unfolding tick
   tick-asynchronous m = rw m
 

@@ -1,5 +1,5 @@
--- Laws of the bits that are sent: how many they are, at which lengths a shape counts, and what parity makes of
--- their ones. Assumes nothing.
+-- Laws of the bits that are sent: how many they are, at which lengths a shape counts, and what
+-- parity makes of their ones. Assumes nothing.
 use mathlib.Core.Path.{_≡_, refl, ap, _∙_}
 use mathlib.Core.Bool.{Bool, true, false, not}
 use mathlib.Core.List.{List, [], _∷_, _++_}

@@ -1,5 +1,5 @@
--- Laws of the shapes: they exclude each other, a shaped byte sends just its Ds, and every byte of 256 is decided.
--- Assumes nothing.
+-- Laws of the shapes: they exclude each other, a shaped byte sends just its Ds, and every byte of
+-- 256 is decided. Assumes nothing.
 use mathlib.Core.Path.{_≡_, refl, sym, ap, _∙_}
 use mathlib.Core.Bool.{Bool, true, false}
 use mathlib.Core.List.{List, [], _∷_, _++_, map}
@@ -65,7 +65,8 @@ rightly s d = eqb (shapeBits (shaped s d)) (s .count)
 
 abbrev pub SendsItsDs : Shape → Type 0
 SendsItsDs s =
-    (d : ℕ) → d < 2 ^ (s .count) → lowBits (shapeBits (shaped s d)) (shaped s d) ≡ lowBits (s .count) d
+    (d : ℕ) → d < 2 ^ (s .count)
+    → lowBits (shapeBits (shaped s d)) (shaped s d) ≡ lowBits (s .count) d
 
 sends : (s : Shape) → T (below (rightly s) (2 ^ (s .count))) → SendsItsDs s
 sends s t d h =
@@ -94,7 +95,8 @@ shaped-bits = (
 -- Every byte of 256, decided: so many bytes in a row, from 00 up, that send so many bits
 abbrev pub table : List ℕ
 table =
-    replicate 0x80 5 ++ (replicate 0x10 4 ++ (replicate 0x30 5 ++ (replicate 0x08 3 ++ (replicate 0x18 5
+    replicate 0x80 5
+    ++ (replicate 0x10 4 ++ (replicate 0x30 5 ++ (replicate 0x08 3 ++ (replicate 0x18 5
     ++ (replicate 0x04 2 ++ (replicate 0x0C 5 ++ (replicate 0x02 1 ++ replicate 0x0E 5)))))))
 
 unfoldable pub upTo : ℕ → List ℕ

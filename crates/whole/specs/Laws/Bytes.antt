@@ -1,5 +1,5 @@
--- Bytes and their bits: a byte as the receiver assembles it, the check as two bytes, and one flipped
--- bit, which the check always finds. Assumes nothing.
+-- Bytes and their bits: a byte as the receiver assembles it, the check as two bytes, and one
+-- flipped bit, which the check always finds. Assumes nothing.
 use mathlib.Core.Path.{_≡_, refl, sym, ap, ap₂, _∙_}
 use mathlib.Core.Logic.{_≢_}
 use mathlib.Core.Bool.{Bool, true, false, not}
@@ -8,7 +8,8 @@ use Prim.Native.Nat.{ℕ, zero, suc, _+_, _*_, _/_, _%_, _≤_, _<_}
 use native.Mathlib.Omega.{arith}
 use lib.Dec.{T, eqb, eqb→eq}
 use lib.Bits.{bitXor, differ, xor-self, xor-zero-l, xor-zero-r}
-use lib.ListN.{length, take, drop, replicate, length-append, length-take, length-drop, take-append-drop}
+use lib.ListN.{length, take, drop, replicate, length-append, length-take, length-drop}
+use lib.ListN.{take-append-drop}
 use Rattle.common.specs.Choice.{if_then_else_}
 use Rattle.common.specs.Tools.{below, below→, eqb-elim}
 use Rattle.line.specs.Bits.{lowBits, textBits}
@@ -60,7 +61,8 @@ unfolding checkBytes textBits
 check-bits r =
     let x = take 8 (checkBits r) in
     let y = drop 8 (checkBits r) in
-    rw (byte-of x (first-eight r), byte-of y (last-eight r), append-nil y) (take-append-drop 8 (checkBits r))
+    rw (byte-of x (first-eight r), byte-of y (last-eight r), append-nil y)
+    (take-append-drop 8 (checkBits r))
 
 check-below : (r : ℕ) → Below 256 (checkBytes r)
 unfolding checkBytes
@@ -106,11 +108,14 @@ of-bits (suc n) bs h =
     record {
       bytes = fromLow (take 8 bs) ∷ k .bytes;
       fit = more (byte-lt (take 8 bs) l) (k .fit);
-      are = ap₂ (λ (x y : List Bool). x ++ y) (byte-of (take 8 bs) l) (k .are) ∙ take-append-drop 8 bs;
+      are =
+          ap₂ (λ (x y : List Bool). x ++ y) (byte-of (take 8 bs) l) (k .are)
+          ∙ take-append-drop 8 bs;
       count = ap suc (k .count);
     }
 
--- One flipped bit is always found: the two registers then differ, and a difference that is not 0 stays so over any bits
+-- One flipped bit is always found: the two registers then differ, and a difference that is not 0
+-- stays so over any bits
 
 step-live : (r : ℕ) → 1 ≤ r → r < 65536 → 1 ≤ checkStep sdlc r false
 unfolding checkStep
@@ -145,7 +150,9 @@ flip-found r k xs ys b e f =
     ap (bitXor x) p ∙ sym (xor-assoc x x sdlc)
     ∙ ap (λ (u : ℕ). bitXor u sdlc) (xor-self x) ∙ xor-zero-l sdlc in
     let z : checkOver sdlc sdlc (replicate (length ys) false) ≡ 0 =
-    ap (λ (u : ℕ). checkOver sdlc u (replicate (length ys) false)) (sym d) ∙ sym (check-linear sdlc x y ys)
-    ∙ ap₂ bitXor (sym (check-join sdlc r xs (b ∷ ys)) ∙ e) (sym (check-join sdlc r xs (not b ∷ ys)) ∙ f)
+    ap (λ (u : ℕ). checkOver sdlc u (replicate (length ys) false)) (sym d)
+    ∙ sym (check-linear sdlc x y ys)
+    ∙ ap₂ bitXor (sym (check-join sdlc r xs (b ∷ ys)) ∙ e)
+    (sym (check-join sdlc r xs (not b ∷ ys)) ∙ f)
     ∙ xor-self k in
     omega (arith, zeros-live sdlc (length ys) (omega arith) (omega arith))

@@ -1,4 +1,5 @@
--- The laws of what is to come: a tick in time takes the first bit, a write takes none. Assumes nothing.
+-- The laws of what is to come: a tick in time takes the first bit, a write takes none. Assumes
+-- nothing.
 use mathlib.Core.Path.{_≡_, refl, sym, ap, _∙_}
 use mathlib.Core.Bool.{Bool, true, false}
 use mathlib.Core.List.{List, [], _∷_, _++_, append-assoc}
@@ -21,7 +22,8 @@ use Rattle.sdlc.specs.Laws.Tick.{tick-owed, tick-flag, tick-byte, tick-check, t
 use Rattle.sdlc.specs.Laws.Tick.{tick-chooses, next-flag-full, next-byte-full, next-byte-check}
 use Rattle.sdlc.specs.Laws.Tick.{next-check, next-abort}
 use Rattle.whole.specs.Come.{good, waiting, closed, toCome, filledWith}
-use Rattle.whole.specs.Stage.{sinceAfter, inTime, Stage, opening, inByte, inCheck, closing, cutOff}
+use Rattle.whole.specs.Stage.{sinceAfter, inTime, Stage, opening, inByte, inCheck, closing}
+use Rattle.whole.specs.Stage.{cutOff}
 
 -- Bits
 
@@ -36,7 +38,8 @@ stuffed r b bs tail =
 pub load : (r c b : ℕ) (rest : List ℕ)
     → let r₁ = runAfter r (odd b) in
     let c₁ = checkOver sdlc c (lowBits 8 b) in
-    closed r c [] (b ∷ rest) ≡ odd b ∷ (zeroIf (owes r (odd b)) ++ closed r₁ c₁ (lowBits 7 (b / 2)) rest)
+    closed r c [] (b ∷ rest)
+    ≡ odd b ∷ (zeroIf (owes r (odd b)) ++ closed r₁ c₁ (lowBits 7 (b / 2)) rest)
 unfolding closed textBits
 load r c b rest =
     let k = checkBits (checkOver sdlc (checkOver sdlc c (lowBits 8 b)) (textBits 8 rest)) in
@@ -48,7 +51,8 @@ load r c b rest =
 -- the next bit of the byte under way
 pub byte-on : (r c k v : ℕ) (vs : List ℕ)
     → let r₁ = runAfter r (odd v) in
-    closed r c (lowBits (suc k) v) vs ≡ odd v ∷ (zeroIf (owes r (odd v)) ++ closed r₁ c (lowBits k (v / 2)) vs)
+    closed r c (lowBits (suc k) v) vs
+    ≡ odd v ∷ (zeroIf (owes r (odd v)) ++ closed r₁ c (lowBits k (v / 2)) vs)
 unfolding closed lowBits
 byte-on r c k v vs =
     let check = checkBits (checkOver sdlc c (textBits 8 vs)) in
@@ -58,7 +62,8 @@ byte-on r c k v vs =
 pub check-starts : (r c : ℕ)
     → let x = complement c in
     let r₁ = runAfter r (top x) in
-    closed r c [] [] ≡ top x ∷ (zeroIf (owes r (top x)) ++ (stuff r₁ (topBits 15 (shifted x)) ++ flagBits))
+    closed r c [] []
+    ≡ top x ∷ (zeroIf (owes r (top x)) ++ (stuff r₁ (topBits 15 (shifted x)) ++ flagBits))
 unfolding closed textBits checkOver checkBits topBits
 check-starts r c = stuffed r (top (complement c)) (topBits 15 (shifted (complement c))) flagBits
 
@@ -149,7 +154,8 @@ takes (inByte zero v r false b false c n [] m) t l =
       sent = top y;
       loaded = false;
       next = framer (Check 15 (shifted y)) i (shared b false true c);
-      ticks = tick-chooses good r x (Byte 0 v) refl ∙ next-byte-check good r x refl 0 v refl refl refl;
+      ticks =
+          tick-chooses good r x (Byte 0 v) refl ∙ next-byte-check good r x refl 0 v refl refl refl;
       head = unfold lowBits in (check-starts r c);
       stage = inCheck 15 (shifted y) (i .run) (i .owed) b false c (n + 1);
     }
@@ -226,7 +232,8 @@ pub moves : {a : Bool} {s : Framer} {n v : ℕ} {rest : List ℕ} → Stage a s 
 moves (opening k b true c n rest m p) e = void (sym e)
 moves {v = v} {rest = rest} (opening k b false c n _ m p) e = (refl, opening k v true c n rest m tt)
 moves (inByte k x r o b true c n rest m) e = void (sym e)
-moves {v = v} {rest = rest} (inByte k x r o b false c n _ m) e = (refl, inByte k x r o v true c n rest m)
+moves {v = v} {rest = rest} (inByte k x r o b false c n _ m) e =
+    (refl, inByte k x r o v true c n rest m)
 
 -- once the latch is set: the byte is another frame's
 pub later : {a : Bool} {s : Framer} {n : ℕ} (v : ℕ) → Stage a s n [] → s .shared .latch ≡ true

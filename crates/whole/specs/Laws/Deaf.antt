@@ -1,7 +1,7 @@
--- 01, Receiving: "a seventh one is an abort (outside hunt): .. the frame is dropped until a flag". Seven
--- ones leave the SDLC receiver deaf, a deaf one hands over nothing up to and including the next flag,
--- and an end mark comes at a flag alone: so no end is told of a frame that was aborted. For any
--- receiver, address search on or off. Assumes nothing.
+-- 01, Receiving: "a seventh one is an abort (outside hunt): .. the frame is dropped until a flag".
+-- Seven ones leave the SDLC receiver deaf, a deaf one hands over nothing up to and including the
+-- next flag, and an end mark comes at a flag alone: so no end is told of a frame that was aborted.
+-- For any receiver, address search on or off. Assumes nothing.
 use mathlib.Core.Path.{_≡_, refl, sym, ap, ap₂, _∙_, subst}
 use mathlib.Core.Bool.{Bool, true, false, not, _&&_, _||_}
 use mathlib.Core.List.{List, [], _∷_, _++_}
@@ -24,7 +24,8 @@ use Rattle.sdlc.specs.declared.Listened.{Listened}
 use Rattle.sdlc.specs.Hearing.{fullDelay, onesCounted, lastBit, spilled, oldestBit, wrong, accept}
 use Rattle.sdlc.specs.Hearing.{push, deaf, closing, one, zeroBit, hearSdlc}
 use Rattle.sdlc.specs.Within.{onesAfter}
-use Rattle.whole.specs.Heard.{handed, Final, hearAll, flagEnds, onesOver, flagFree, abortedLine}
+use Rattle.whole.specs.Heard.{handed, Final, hearAll, flagEnds, onesOver, flagFree}
+use Rattle.whole.specs.Heard.{abortedLine}
 use Rattle.whole.specs.Heard.{lead, endMarks}
 use Rattle.whole.specs.Laws.Heard.{hear-join}
 
@@ -77,7 +78,8 @@ module _ (g : Addressing) (c : Chars) (k : ℕ) where
   accept-counts : (o : ℕ) (x : Bool) (d : ℕ) (b : Bool) → Counts o (accept g c k o x d b)
   unfolding accept
   accept-counts o x d b =
-      if-elim (Counts o) (ltb (c .count) lastBit) refl (if-elim (Counts o) (wrong g (c .have) _) refl refl)
+      if-elim (Counts o) (ltb (c .count) lastBit) refl
+      (if-elim (Counts o) (wrong g (c .have) _) refl refl)
 
 module _ (g : Addressing) (s : Listener) where
   push-no-end : (o : ℕ) (x b : Bool) → NoEnd (push g s o x b)
@@ -216,7 +218,8 @@ module _ (g : Addressing) where
       ap (λ (n : ℕ). flagFree n bs) (hear-counts s b)
       ∙ both-right (not (flagEnds o b)) (flagFree (onesAfter o b) bs) f
 
-  free-here : (s : Listener) (b : Bool) (bs : List Bool) → flagFree (s .content .ones) (b ∷ bs) ≡ true
+  free-here : (s : Listener) (b : Bool) (bs : List Bool)
+      → flagFree (s .content .ones) (b ∷ bs) ≡ true
       → not (flagEnds (s .content .ones) b) ≡ true
   unfolding flagFree
   free-here s b bs f =
@@ -262,7 +265,8 @@ module _ (g : Addressing) where
       ones-deafen k (hearSdlc g s true .listener)
       (omega (arith, hear-counts s true, counted-on (s .content .ones) k l))
 
-  pub seven-deafen : (n : ℕ) (s : Listener) → 7 ≤ n → Deaf (hearAll g s (replicate n true) .listener)
+  pub seven-deafen : (n : ℕ) (s : Listener) → 7 ≤ n
+      → Deaf (hearAll g s (replicate n true) .listener)
   seven-deafen zero s l = absurd (omega arith)
   seven-deafen (suc n) s l = ones-deafen n s (omega arith)
 
@@ -284,7 +288,8 @@ seven-counted (suc n) o l = ones-seven n o (omega arith)
 
 -- THE ABORT, heard
 
-pub abort-no-end : (g : Addressing) (s : Listener) (xs : List Bool) (n : ℕ) (zs : List Bool) (b : Bool)
+pub abort-no-end : (g : Addressing) (s : Listener) (xs : List Bool) (n : ℕ) (zs : List Bool)
+    (b : Bool)
     → 7 ≤ n → flagFree (s .content .ones) xs ≡ true → flagFree 7 zs ≡ true
     → endMarks (hearAll g s (abortedLine xs n zs b) .got) ≡ 0
 abort-no-end g s xs n zs b k f h =
@@ -306,8 +311,8 @@ abort-no-end g s xs n zs b k f h =
       deaf-no-end g u zs b (seven-deafen g n t k) (ap (λ (y : ℕ). flagFree y zs) i ∙ h),
     )
 
--- Which lines hold no flag: content with its inserted zeros and a flag but for its last bit, and every
--- beginning of one without
+-- Which lines hold no flag: content with its inserted zeros and a flag but for its last bit, and
+-- every beginning of one without
 
 stuff-free : (r : ℕ) (bs rest : List Bool) → r < 5 → ((q : ℕ) → q < 5 → flagFree q rest ≡ true)
     → flagFree r (stuff r bs ++ rest) ≡ true
@@ -318,7 +323,9 @@ stuff-free r (false ∷ bs) rest h f =
 stuff-free r (true ∷ bs) rest h f =
     ltb-elim (λ t. flagFree (if t then r + 1 else 7)
     ((zeroIf (not (ltb r 4)) ++ stuff (if ltb r 4 then r + 1 else 0) bs) ++ rest) ≡ true) r 7
-    (λ l. ltb-elim (λ t. flagFree (r + 1) ((zeroIf (not t) ++ stuff (if t then r + 1 else 0) bs) ++ rest) ≡ true) r 4
+    (λ l. ltb-elim
+    (λ t. flagFree (r + 1) ((zeroIf (not t) ++ stuff (if t then r + 1 else 0) bs) ++ rest)
+    ≡ true) r 4
     (λ m. stuff-free (r + 1) bs rest (omega arith) f)
     (λ m. rw (ne-eqb (r + 1) 6 (λ e. omega arith)) (stuff-free 0 bs rest (omega arith) f)))
     (λ l. absurd (omega arith))
@@ -336,4 +343,5 @@ free-front o [] ys f = refl
 free-front o (x ∷ xs) ys f =
     let a = not (flagEnds o x) in
     let r = flagFree (onesAfter o x) (xs ++ ys) in
-    ap₂ (λ (p q : Bool). p && q) (both-left a r f) (free-front (onesAfter o x) xs ys (both-right a r f))
+    ap₂ (λ (p q : Bool). p && q) (both-left a r f)
+    (free-front (onesAfter o x) xs ys (both-right a r f))

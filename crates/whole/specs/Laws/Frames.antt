@@ -28,7 +28,8 @@ use Rattle.sdlc.specs.declared.Listened.{Listened}
 use Rattle.sdlc.specs.Hearing.{chars, noChars, emptyDelay, fullDelay, content, heardSo, listener}
 use Rattle.sdlc.specs.Hearing.{listened, unheard, withOnes, shiftIn, lastBit, accept, push, closing}
 use Rattle.sdlc.specs.Hearing.{pastFlag, one, zeroBit, hearSdlc}
-use Rattle.whole.specs.Heard.{handed, Final, final, before, hearAll, Fresh, in-hunt, past-flag, lead}
+use Rattle.whole.specs.Heard.{handed, Final, final, before, hearAll, Fresh, in-hunt}
+use Rattle.whole.specs.Heard.{past-flag, lead}
 use Rattle.whole.specs.Frames.{ended, betweenFlags, framesOf, allEnded, Notes, no-more}
 use Rattle.line.specs.Frame.{withCheck}
 use Rattle.whole.specs.Frames.{one-more}
@@ -136,7 +137,8 @@ module _ (address : ℕ) where
       let hs = oneIf-le s in let hu = oneIf-le u in let hw = oneIf-le w in
       let top : v / 64 % 2 ≡ oneIf d = omega arith in
       let full : 128 ≤ v = omega arith in
-      let rest : 128 + v % 64 * 2 + oneIf b ≡ delayOf 1 (p ∷ q ∷ k ∷ s ∷ u ∷ w ∷ b ∷ []) = omega arith in
+      let rest : 128 + v % 64 * 2 + oneIf b ≡ delayOf 1 (p ∷ q ∷ k ∷ s ∷ u ∷ w ∷ b ∷ []) =
+      omega arith in
       rw (le-ltb v 128 full, top, oneIf-is d, rest)
   push-full r o x y b d (p ∷ q ∷ k ∷ s ∷ u ∷ w ∷ z ∷ ds) t l = absurd (omega arith)
 
@@ -155,7 +157,8 @@ module _ (address : ℕ) where
       elim (ltb (c .count) lastBit) as
       (λ q. let h = if q then unheard (at o y d less) else listened (at o y d full) (c .have) n in
       before (handed h) (hearAll g (h .listener) tail)
-      ≡ before (if q then [] else entryIf (c .have) n) (hearAll g (at o y d (if q then less else full)) tail))
+      ≡ before (if q then [] else entryIf (c .have) n)
+      (hearAll g (at o y d (if q then less else full)) tail))
       [ true ↦ refl | false ↦ refl ]
 
   -- from here the tail's bits push ys into the delay, and then a flag ends
@@ -194,13 +197,16 @@ module _ (address : ℕ) where
       full (d ∷ ds) l m =
           let rest = ds ++ (b ∷ []) in
           let c = t .chars in
-          let i : length rest + length ys - 7 ≡ length ys = omega (arith, length-append ds (b ∷ [])) in
+          let i : length rest + length ys - 7 ≡ length ys =
+          omega (arith, length-append ds (b ∷ [])) in
           let n : suc (length ys) ≡ suc (length ds) + suc (length ys) - 7 = omega arith in
           ap (λ (h : Listened). before (handed h) (hearAll g (h .listener) tail))
           (p (delayOf 1 (d ∷ ds)) t ∙ push-full r o x y b d ds t (omega arith))
           ∙ accept-is o (delayOf 1 rest) y d t tail
-          ∙ ap (before (gave c)) (k .heard-at (nextText t d) rest (omega (arith, length-append ds (b ∷ []))))
-          ∙ ap₂ (λ (n : ℕ) (l : List Bool). final pastFlag (gave c ++ charRun (nextText t d) (take n l))) i
+          ∙ ap (before (gave c))
+          (k .heard-at (nextText t d) rest (omega (arith, length-append ds (b ∷ []))))
+          ∙ ap₂ (λ (n : ℕ) (l : List Bool). final pastFlag
+          (gave c ++ charRun (nextText t d) (take n l))) i
           (append-assoc ds (b ∷ []) ys)
           ∙ ap (λ (n : ℕ). final pastFlag (charRun t (take n (d ∷ (ds ++ (b ∷ ys)))))) n
 
@@ -251,7 +257,8 @@ module _ (address : ℕ) where
   stuffed [] r x l = closing-flag r x l
   stuffed (false ∷ bs) r x l = into (zero-enters r x l) (stuffed bs 0 false (omega arith))
   stuffed (true ∷ bs) r x l =
-      ltb-elim (λ t. Ready r x (true ∷ ((zeroIf (not t) ++ stuff (if t then r + 1 else 0) bs) ++ flagBits))
+      ltb-elim (λ t. Ready r x
+      (true ∷ ((zeroIf (not t) ++ stuff (if t then r + 1 else 0) bs) ++ flagBits))
       (true ∷ (bs ++ lead))) r 4
       (λ m. into (one-enters r x (omega arith)) (stuffed bs (r + 1) x (omega arith)))
       (λ m. into (one-enters r x (omega arith))
@@ -267,18 +274,21 @@ module _ (address : ℕ) where
       let n : 0 + length (bs ++ lead) - 7 ≡ length bs = omega (arith, length-append bs lead) in
       stuffed bs 0 false (omega arith) .heard-at freshText [] (omega arith)
       ∙ ap (λ (n : ℕ). final pastFlag (charRun freshText (take n (bs ++ lead)))) n
-      ∙ ap (λ (l : List Bool). final pastFlag (charRun freshText l)) (take-at bs lead (length bs) refl)
+      ∙ ap (λ (l : List Bool). final pastFlag (charRun freshText l))
+      (take-at bs lead (length bs) refl)
 
   -- the opening flag; in hunt its first 0 may itself end a flag
   abbrev Opened : Content → ℕ → Bool → Type 0
   Opened c k x = hearAll g (heardSo c k x) flagBits ≡ final pastFlag []
 
-  from-hunt : (s : Bool) (o d : ℕ) (c : Chars) (k : ℕ) (x : Bool) → Opened (content true s o d c) k x
+  from-hunt : (s : Bool) (o d : ℕ) (c : Chars) (k : ℕ) (x : Bool)
+      → Opened (content true s o d c) k x
   unfolding hearAll hearSdlc one zeroBit push
   from-hunt s o d c k x =
       eqb-elim (λ t. let h = if t then listened pastFlag false (closing c k)
       else unheard (heardSo (content true s 0 d c) k false) in
-      before (handed h) (hearAll g (h .listener) (true ∷ true ∷ true ∷ true ∷ true ∷ true ∷ false ∷ []))
+      before (handed h)
+      (hearAll g (h .listener) (true ∷ true ∷ true ∷ true ∷ true ∷ true ∷ false ∷ []))
       ≡ final pastFlag []) o 6 (λ e. refl) (λ e. refl)
 
   from-flag : (x : Bool) → Opened (pastFlag .content) ones x
@@ -288,7 +298,8 @@ module _ (address : ℕ) where
   opened : (s : Listener) → Fresh s → hearAll g s flagBits ≡ final pastFlag []
   opened s (in-hunt p) =
       let c = s .content in
-      subst (λ (t : Bool). Opened (content t (c .skip) (c .ones) (c .delay) (c .chars)) (s .check) (s .broken))
+      subst (λ (t : Bool). Opened (content t (c .skip) (c .ones) (c .delay) (c .chars)) (s .check)
+      (s .broken))
       (sym p) (from-hunt (c .skip) (c .ones) (c .delay) (c .chars) (s .check) (s .broken))
   opened s (past-flag p q) =
       subst (λ (k : ℕ). Opened (s .content) k (s .broken)) (sym q)
@@ -303,7 +314,8 @@ badIf k = not (eqb k remainder)
 byte-in : (t : Bool) (o k v : ℕ) (rest : List Bool)
     → charRun (text (chars 0 0 t o) k) (lowBits 8 v ++ rest)
     ≡ entryIf t (plainEntry o false false)
-    ++ charRun (text (chars 0 0 true (assembled 0 (lowBits 8 v))) (checkOver sdlc k (lowBits 8 v))) rest
+    ++ charRun (text (chars 0 0 true (assembled 0 (lowBits 8 v)))
+    (checkOver sdlc k (lowBits 8 v))) rest
 unfolding charRun lowBits assembled checkOver
 byte-in t o k v rest = refl
 
@@ -314,7 +326,8 @@ byte-whole : (t : Bool) (o k v : ℕ) (rest : List Bool) → v < 256
 byte-whole t o k v rest l =
     let c = checkOver sdlc k (lowBits 8 v) in
     byte-in t o k v rest
-    ∙ ap (λ (x : ℕ). entryIf t (plainEntry o false false) ++ charRun (text (chars 0 0 true x) c) rest)
+    ∙ ap (λ (x : ℕ). entryIf t (plainEntry o false false)
+    ++ charRun (text (chars 0 0 true x) c) rest)
     (assembled-whole v l)
 
 bytes-in : (o k : ℕ) {vs : List ℕ} → Below 256 vs
@@ -326,7 +339,8 @@ bytes-in o k (more {v = v} {vs = vs} l bs) =
     let e = plainEntry o false false in
     byte-whole true o k v (noteBits vs) l
     ∙ ap (λ (l : List Entry). e ∷ l) (bytes-in v (checkOver sdlc k (lowBits 8 v)) bs)
-    ∙ ap (λ (x : ℕ). e ∷ ended (badIf x) (v ∷ vs)) (sym (check-join sdlc k (lowBits 8 v) (noteBits vs)))
+    ∙ ap (λ (x : ℕ). e ∷ ended (badIf x) (v ∷ vs))
+    (sym (check-join sdlc k (lowBits 8 v) (noteBits vs)))
 
 -- whole bytes from a flag on, at least one
 fresh-in : (v : ℕ) {vs : List ℕ} → Below 256 (v ∷ vs)
@@ -336,7 +350,8 @@ unfolding textBits
 fresh-in v {vs} (more l bs) =
     byte-whole false 0 ones v (noteBits vs) l
     ∙ bytes-in v (checkOver sdlc ones (lowBits 8 v)) bs
-    ∙ ap (λ (x : ℕ). ended (badIf x) (v ∷ vs)) (sym (check-join sdlc ones (lowBits 8 v) (noteBits vs)))
+    ∙ ap (λ (x : ℕ). ended (badIf x) (v ∷ vs))
+    (sym (check-join sdlc ones (lowBits 8 v) (noteBits vs)))
 
 -- The whole line
 
@@ -369,13 +384,15 @@ module _ (a : ℕ) where
   note-past v {vs} b =
       ap (λ (l : List Bool). hearAll f pastFlag (stuff 0 l ++ flagBits)) (content-bytes (v ∷ vs))
       ∙ bytes-past v (withCheck-below b)
-      ∙ ap (λ (k : ℕ). final pastFlag (ended (badIf k) (withCheck (v ∷ vs)))) (withCheck-good (v ∷ vs))
+      ∙ ap (λ (k : ℕ). final pastFlag (ended (badIf k) (withCheck (v ∷ vs))))
+      (withCheck-good (v ∷ vs))
 
   -- the frame of a note
   pub frame-heard : (s : Listener) (note : List ℕ) → 1 ≤ length note → Fresh s → Below 256 note
       → hearAll f s (frame note) ≡ final pastFlag (ended false (withCheck note))
   frame-heard s [] n t b = absurd (omega arith)
-  frame-heard s (v ∷ vs) n t b = opening s t (stuff 0 (contentOf (v ∷ vs)) ++ flagBits) ∙ note-past v b
+  frame-heard s (v ∷ vs) n t b =
+      opening s t (stuff 0 (contentOf (v ∷ vs)) ++ flagBits) ∙ note-past v b
 
   -- several notes: each closing flag is the next one's opening flag
   notes-past : {ns : List (List ℕ)} → Notes ns

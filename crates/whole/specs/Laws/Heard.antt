@@ -9,10 +9,12 @@ use Rattle.sdlc.specs.Hearing.{hearSdlc}
 use Rattle.whole.specs.Heard.{handed, Final, final, before, hearAll}
 
 pub before-join : (xs ys : List Entry) (f : Final) → before xs (before ys f) ≡ before (xs ++ ys) f
-before-join xs ys f = ap (λ (l : List Entry). final (f .listener) l) (sym (append-assoc xs ys (f .got)))
+before-join xs ys f =
+    ap (λ (l : List Entry). final (f .listener) l) (sym (append-assoc xs ys (f .got)))
 
 pub hear-join : (g : Addressing) (s : Listener) (xs ys : List Bool)
-    → let f = hearAll g s xs in hearAll g s (xs ++ ys) ≡ before (f .got) (hearAll g (f .listener) ys)
+    → let f =
+    hearAll g s xs in hearAll g s (xs ++ ys) ≡ before (f .got) (hearAll g (f .listener) ys)
 unfolding hearAll
 hear-join g s [] ys = refl
 hear-join g s (x ∷ xs) ys =

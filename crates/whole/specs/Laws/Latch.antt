@@ -1,5 +1,5 @@
--- The underrun latch: a tick never lowers it, the tick that finds the line dry sets it, and while it is
--- clear a tick leaves an opening flag or a byte, or sets it. Assumes nothing.
+-- The underrun latch: a tick never lowers it, the tick that finds the line dry sets it, and while
+-- it is clear a tick leaves an opening flag or a byte, or sets it. Assumes nothing.
 use mathlib.Core.Path.{_≡_, refl, ap, _∙_}
 use mathlib.Core.Bool.{Bool, true, false, not, _&&_}
 use Prim.Native.Nat.{ℕ}
@@ -19,7 +19,8 @@ use Rattle.whole.specs.Come.{good, opens}
 -- The tick that finds the line dry
 
 pub dry-sets : (v r b c : ℕ)
-    → tickSdlc good (framer (Byte 0 v) (insertion r false) (shared b false false c)) .framer .shared .latch
+    → tickSdlc good
+    (framer (Byte 0 v) (insertion r false) (shared b false false c)) .framer .shared .latch
     ≡ true
 dry-sets v r b c =
     let k = shared b false false c in

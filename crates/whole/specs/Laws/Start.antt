@@ -1,4 +1,5 @@
--- The frame is to come at the start, and nothing is once the closing flag has ended. Assumes nothing.
+-- The frame is to come at the start, and nothing is once the closing flag has ended. Assumes
+-- nothing.
 use mathlib.Core.Path.{_≡_, refl, sym, ap, _∙_}
 use mathlib.Core.Bool.{Bool, true, false}
 use mathlib.Core.List.{List, [], _∷_, _++_, append-assoc}
@@ -59,7 +60,11 @@ closed-some : (r c : ℕ) (bits : List Bool) (bytes : List ℕ) → 8 ≤ length
 unfolding closed
 closed-some r c bits bytes =
     let text = textBits 8 bytes in
-    omega (arith, length-append (stuff r (bits ++ (text ++ checkBits (checkOver sdlc c text)))) flagBits)
+    omega (
+      arith,
+      length-append
+          (stuff r (bits ++ (text ++ checkBits (checkOver sdlc c text)))) flagBits,
+    )
 
 pub unended-some : {a : Bool} {s : Framer} {n : ℕ} {rest : List ℕ} → Stage a s n rest
     → frameEnded s ≡ false → 1 ≤ length (toCome s rest)

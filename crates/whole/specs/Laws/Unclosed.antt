@@ -1,5 +1,5 @@
--- While the latch is clear the line holds no closed frame: a flag ends only right behind another; and a
--- frame is closed. Assumes nothing.
+-- While the latch is clear the line holds no closed frame: a flag ends only right behind another;
+-- and a frame is closed. Assumes nothing.
 use mathlib.Core.Path.{_≡_, refl, sym, ap, _∙_}
 use mathlib.Core.Bool.{Bool, true, false, not, _&&_}
 use mathlib.Core.List.{List, [], _∷_, _++_, append-assoc}
@@ -91,7 +91,8 @@ record Content (s : Framer) (r g : ℕ) (bit : Bool) : Type 0 where
   pub on : (bs : List Bool) → unclosed r g (bit ∷ bs) ≡ unclosed ones bits bs
 
 content : (n v r b : ℕ) (f : Bool) (c g : ℕ) (bit : Bool) → r < 5
-    → Content (framer (Byte n v) (insertion (runAfter r bit) (owes r bit)) (shared b f false c)) r g bit
+    → Content (framer (Byte n v) (insertion (runAfter r bit) (owes r bit))
+    (shared b f false c)) r g bit
 unfolding unclosed
 content n v r b f c g false h = record {
   ones = 0;
@@ -112,12 +113,14 @@ content n v r b f c g true h =
 
 -- a tick goes on so, or sets the latch
 pub data Goes (s : Framer) (o g : ℕ) : Type 0 where
-  goes : (bit loaded : Bool) (t : Framer) (p q : ℕ) → tickSdlc good s ≡ framed bit loaded t → Opened t p q
+  goes : (bit loaded : Bool) (t : Framer) (p q : ℕ) → tickSdlc good s ≡ framed bit loaded t
+      → Opened t p q
       → ((bs : List Bool) → unclosed o g (bit ∷ bs) ≡ unclosed p q bs) → Goes s o g
   shuts : tickSdlc good s .framer .shared .latch ≡ true → Goes s o g
 
 flag-on : (n : ℕ) → n ≤ 6 → (bs : List Bool)
-    → unclosed (onesIn (suc n)) (bitsIn (suc n)) (flagBit (suc n) ∷ bs) ≡ unclosed (onesIn n) (bitsIn n) bs
+    → unclosed (onesIn (suc n)) (bitsIn (suc n)) (flagBit (suc n) ∷ bs)
+    ≡ unclosed (onesIn n) (bitsIn n) bs
 unfolding unclosed
 flag-on zero h bs = refl
 flag-on (suc zero) h bs = refl
@@ -140,7 +143,8 @@ pub tick-goes : {s : Framer} {o g : ℕ} → Opened s o g → Goes s o g
 unfolding unclosed
 tick-goes (in-flag (suc n) b f c l) =
     let k = shared b f false c in
-    goes (flagBit (suc n)) false (framer (Flag n) notCounted k) (onesIn n) (bitsIn n) (tick-flag good k n 0)
+    goes (flagBit (suc n)) false (framer (Flag n) notCounted k) (onesIn n) (bitsIn n)
+    (tick-flag good k n 0)
     (in-flag n b f c (omega arith)) (flag-on n (omega arith))
 tick-goes (in-flag zero b true c l) =
     let k = shared b true false c in
@@ -165,7 +169,8 @@ tick-goes (in-byte zero v r b false c g l) =
     (tick-chooses good r k (Byte 0 v) refl ∙ next-byte-check good r k refl 0 v refl refl refl))
 tick-goes (owing n v b f c g) =
     let k = shared b f false c in
-    goes false false (framer (Byte n v) (insertion 0 false) k) 0 (g + 1) (tick-owed good k (Byte n v) 0)
+    goes false false (framer (Byte n v) (insertion 0 false) k) 0 (g + 1)
+    (tick-owed good k (Byte n v) 0)
     (in-byte n v 0 b f c (g + 1) (omega arith)) (λ bs. refl)
 
 pub opened-filled : {s : Framer} {o g : ℕ} (v : ℕ) → Opened s o g → Opened (filledWith s v) o g
@@ -177,4 +182,5 @@ opened-filled v (owing n y b f c g) = owing n y v true c g
 pub tail-passes : (n : ℕ) → n ≤ 7 → (bs : List Bool)
     → unclosed (onesIn n) (bitsIn n) (flagTail n ++ bs) ≡ unclosed 0 0 bs
 tail-passes zero h bs = refl
-tail-passes (suc n) h bs = flag-on n (omega arith) (flagTail n ++ bs) ∙ tail-passes n (omega arith) bs
+tail-passes (suc n) h bs =
+    flag-on n (omega arith) (flagTail n ++ bs) ∙ tail-passes n (omega arith) bs

@@ -1,6 +1,14 @@
--- `channel::Channel::transmit_tick` meets its contract: each return by the facts on its way. Assumes nothing.
+-- `channel::Channel::transmit_tick` meets its contract: a tick that leaves the latch is settled as it is. Assumes nothing.
+use mathlib.Core.Path.{_≡_, sym, ap, ap₂, _∙_}
+use Prim.Native.Nat.{ℕ}
 use Rattle.channel.proofs.Branch.{tests}
-use Rattle.channel.specs.Events.{transmitTick}
+use Rattle.sender.specs.declared.Sending.{Sending}
+use Rattle.sender.specs.Sender.{tick}
+use Rattle.channel.specs.declared.Answer.the-variants.{Gave}
+use Rattle.channel.specs.declared.Channel.{Channel}
+use Rattle.channel.specs.Channel.{answered}
+use Rattle.channel.specs.Events.{transmitted, transmitTick}
+use Rattle.channel.specs.Laws.Within.{still-ticked}
 use borrow.Author.Needs.{needs}
 use Rattle.channel.proofs.Channel.transmit_tick.Statement.{statement}
 use Rattle.channel.proofs.Channel.transmit_tick.Tie as tie
@@ -11,18 +19,33 @@ sending-requires c κs = search needs
 tick-requires : tie.Need-tick-requires
 tick-requires c κs = search needs
 
+cell-requires : tie.Need-cell-requires
+cell-requires c κs = search needs
+
 after-tick-requires : tie.Need-after-tick-requires
 after-tick-requires c κs = search needs
+
+returns : tie.Need-returns
+unfolding transmitTick
+returns c =
+    let x = c .before .before .before .before .before in
+    let s = x .before .before .args .self in
+    ap₂ (λ (v : ℕ) (y : Channel). answered (Gave v) y) (c .before .cell .ensures) (c .after-tick .ensures)
+    ∙ still-ticked s (x .tick .result) (c .before .before .if1 .taken)
+    ∙ ap (transmitted s) (x .tick .ensures ∙ ap (λ (g : Sending). tick g (s .sender)) (x .before .sending .ensures))
+
+after-tick-requires-2 : tie.Need-after-tick-requires-2
+after-tick-requires-2 c κs = search needs
 
 settled-requires : tie.Need-settled-requires
 settled-requires c κs = search needs
 
-cell-requires : tie.Need-cell-requires
-cell-requires c κs = search needs
+cell-requires-2 : tie.Need-cell-requires-2
+cell-requires-2 c κs = search needs
 
-returns : tie.Need-returns
+returns-2 : tie.Need-returns-2
 unfolding transmitTick
-returns c = simp (tests, c .cell .ensures, ← c .before .settled .ensures, ← c .before .before .after-tick .ensures, ← c .before .before .before .tick .ensures, ← c .before .before .before .before .sending .ensures)
+returns-2 c = simp (tests, c .cell2 .ensures, ← c .before .settled .ensures, ← c .before .before .after-tick2 .ensures, ← c .before .before .before .before .before .before .tick .ensures, ← c .before .before .before .before .before .before .before .sending .ensures)
 
 pub transmit-tick-spec : {M : Type 1} → statement M
 transmit-tick-spec =
@@ -30,7 +53,10 @@ transmit-tick-spec =
     (tie.spec
     sending-requires
     tick-requires
-    after-tick-requires
-    settled-requires
     cell-requires
-    returns)
+    after-tick-requires
+    returns
+    after-tick-requires-2
+    settled-requires
+    cell-requires-2
+    returns-2)

@@ -1,15 +1,13 @@
 -- `channel::Channel::within` meets its contract: each return by the facts on its way. Assumes nothing.
-use Rattle.channel.proofs.Branch.{tests}
-use Rattle.channel.specs.Within.{withinByte}
+use mathlib.Core.Path.{_≡_, sym, ap, ap₂, _∙_}
+use mathlib.Core.Bool.{Bool, true, false, not, _&&_}
+use Rattle.common.specs.Mode.{inSdlc}
+use Rattle.sdlc.specs.Within.{within}
+use Rattle.sender.specs.Sender.{framerOf}
+use Rattle.channel.specs.Laws.Within.{inside-is, outside-is}
 use borrow.Author.Needs.{needs}
 use Rattle.channel.proofs.Channel.within.Statement.{statement}
 use Rattle.channel.proofs.Channel.within.Tie as tie
-
-sending-requires : tie.Need-sending-requires
-sending-requires c κs = search needs
-
-in-sdlc-requires : tie.Need-in-sdlc-requires
-in-sdlc-requires c κs = search needs
 
 framer-requires : tie.Need-framer-requires
 framer-requires c κs = search needs
@@ -17,10 +15,40 @@ framer-requires c κs = search needs
 within-requires : tie.Need-within-requires
 within-requires c κs = search needs
 
+breaks-requires : tie.Need-breaks-requires
+breaks-requires c κs = search needs
+
+mode-requires : tie.Need-mode-requires
+mode-requires c κs = search needs
+
+in-sdlc-requires : tie.Need-in-sdlc-requires
+in-sdlc-requires c κs = search needs
+
 returns : tie.Need-returns
-unfolding withinByte
-returns c = simp (tests, c .within .ensures, c .before .framer .ensures, c .before .before .before .in-sdlc .ensures, c .before .before .before .before .sending .ensures)
+returns c =
+    let b = c .before .before .before in
+    let s = b .before .before .before .args .self in
+    let e : within (framerOf (s .sender)) ≡ true =
+    ap within (sym (b .before .before .framer .ensures)) ∙ sym (b .before .within .ensures) ∙ b .if1 .taken in
+    ap₂ (λ (x y : Bool). not x && y) (c .before .before .breaks .ensures)
+    (c .in-sdlc .ensures ∙ ap inSdlc (c .before .mode .ensures))
+    ∙ inside-is s e
+
+returns-2 : tie.Need-returns-2
+returns-2 c =
+    let s = c .before .before .before .args .self in
+    let e : within (framerOf (s .sender)) ≡ false =
+    ap within (sym (c .before .before .framer .ensures)) ∙ sym (c .before .within .ensures) ∙ c .if1 .left in
+    outside-is s e
 
 pub within-spec : {M : Type 1} → statement M
 within-spec =
-    tie.close (tie.spec sending-requires in-sdlc-requires framer-requires within-requires returns)
+    tie.close
+    (tie.spec
+    framer-requires
+    within-requires
+    breaks-requires
+    mode-requires
+    in-sdlc-requires
+    returns
+    returns-2)

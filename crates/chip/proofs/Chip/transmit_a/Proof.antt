@@ -20,16 +20,13 @@ returns c =
     let e = within-tick x (sym (c .before .before .before .within .ensures) ∙ c .before .before .if1 .taken) in
     simp (e, ← c .before .tick-within .ensures) (c .in-a .ensures)
 
-transmit-tick-requires : tie.Need-transmit-tick-requires
-transmit-tick-requires c κs = search needs
-
-in-a-requires-2 : tie.Need-in-a-requires-2
-in-a-requires-2 c κs = search needs
+whole-a-requires : tie.Need-whole-a-requires
+whole-a-requires c κs = search needs
 
 returns-2 : tie.Need-returns-2
-returns-2 c = simp (← c .before .transmit-tick .ensures) (c .in-a2 .ensures)
+returns-2 c = search needs
 
 pub transmit-a-spec : {M : Type 1} → statement M
 transmit-a-spec =
     tie.close
-    (tie.spec within-requires tick-within-requires in-a-requires returns transmit-tick-requires in-a-requires-2 returns-2)
+    (tie.spec within-requires tick-within-requires in-a-requires returns whole-a-requires returns-2)

@@ -20,16 +20,13 @@ returns c =
     let e = within-tick x (sym (c .before .before .before .within .ensures) ∙ c .before .before .if1 .taken) in
     simp (e, ← c .before .tick-within .ensures) (c .in-b .ensures)
 
-transmit-tick-requires : tie.Need-transmit-tick-requires
-transmit-tick-requires c κs = search needs
-
-in-b-requires-2 : tie.Need-in-b-requires-2
-in-b-requires-2 c κs = search needs
+whole-b-requires : tie.Need-whole-b-requires
+whole-b-requires c κs = search needs
 
 returns-2 : tie.Need-returns-2
-returns-2 c = simp (← c .before .transmit-tick .ensures) (c .in-b2 .ensures)
+returns-2 c = search needs
 
 pub transmit-b-spec : {M : Type 1} → statement M
 transmit-b-spec =
     tie.close
-    (tie.spec within-requires tick-within-requires in-b-requires returns transmit-tick-requires in-b-requires-2 returns-2)
+    (tie.spec within-requires tick-within-requires in-b-requires returns whole-b-requires returns-2)
