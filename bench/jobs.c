@@ -1,12 +1,16 @@
 /* Rounds of one job, done by plain C (1), by the product (2), by both in turn (3), or left undone (0). Standard input: the job (t transmit ticks,
-   r receive ticks, T and R the same of both channels in turn, m and M of them in Monosync, b and B in Bisync, s a note sent, l a line written; c the zeros of a note counted and p the ticks of
-   the largest list of such notes, C and P the same beside C that lays the lines out first; a and z the check's advance over zero bytes by
-   halves and byte by byte, j a body's check joined to a heading's, w the check of both worked out whole), who, the note's kind (0 mixed, 1 FF,
-   2 00; of a and z the polynomial, 0 SDLC's, 1 the other) and length, and the rounds. Prints for C and for the product a sum over all that came
+   r receive ticks, T and R the same of both channels in turn, m and M of them in Monosync, y and Y in Bisync, s a note sent, l a line written; c
+   the zeros of a note counted and p the ticks of the largest list of such notes, C and P the same beside C that lays the lines out first; a and z
+   the check's advance over zero bytes by
+   halves and byte by byte, j a body's check joined to a heading's, w the check of both worked out whole; notes' lines by the byte engine, its tables
+   lent, beside the bit engine b, plain C i and C with the same tables k, and u a note's with its tables made for it beside the bit engine), who, the
+   note's kind (0 mixed, 1 FF, 2 00, 3 other random bytes in each round; of a and z the polynomial, 0 SDLC's, 1 the other) and length, and the
+   rounds. Of b, i and k a round has one note of more than 40 bytes, 10,000 notes of 40, and 1,000 of fewer. Prints for C and for the product a sum over all that came
    out and the best round's nanoseconds, and then how many ticks, line bits or note bits a round has. */
 #include "station.h"
 #include "line.h"
 #include "joining.h"
+#include "tables.h"
 int printf(const char *, ...);
 int scanf(const char *, ...);
 struct timespec { long seconds, nanoseconds; };
@@ -16,6 +20,9 @@ extern size sio_transmit(const u8 *note, size n, u8 *out, size len, size ticks, 
 extern size sio_receive(const u8 *line, size n, u8 *out, size len, size ticks, _Bool both, u8 wr4);
 extern size sio_send(const u8 *note, size n, size *told, size told_len, size rounds);
 extern size sio_write_line(const u8 *note, size note_len, u8 *out, size out_len, size at);
+extern size sio_engine(const u8 *note, size note_len, u8 *out, size out_len, size at);
+extern size sio_notes_by_bits(const u8 *notes, size len, u8 *out, size out_len, size bytes);
+extern size sio_notes_by_bytes(const u8 *notes, size len, u8 *out, size out_len, size bytes);
 extern size sio_zeros_of(const u8 *note, size n);
 extern size sio_page_ticks(const u8 *list, size n);
 extern size sio_advance(u16 p, u16 r, size k);
@@ -23,7 +30,7 @@ extern size sio_check_text(u16 p, u16 r, const u8 *text, size n);
 extern size sio_check_of(const u8 *text, size n);
 extern size sio_joined(u16 heading, u16 body, size k);
 
-enum { LINE = 20000, TICKS = 65536, NOTES = 4, CHECKS = 16, LIST = 65535, SYNC_CHARACTER = 0x16 };
+enum { LINE = 20000, TICKS = 65536, NOTES = 4, CHECKS = 16, LIST = 65535, MONTH = 400000, SYNC_CHARACTER = 0x16 };
 
 /* RR0 and RR1 of both channels. */
 static size state(const struct chip *c) {
@@ -109,7 +116,7 @@ __attribute__((noinline)) static size c_send(const u8 *note, size n, size *told,
     return state(&c);
 }
 
-static u8 note[LONGEST], line[LINE], out[TICKS], zeros[LONGEST], list[LIST];
+static u8 note[LONGEST], line[LINE], out[TICKS], zeros[LONGEST], list[LIST], month[MONTH];
 static u16 heading, body;                                                 /* the checks of the note's first bytes and of the rest */
 
 /* One check, from the heading's with r in it. */
@@ -131,18 +138,47 @@ static size check_jobs(char what, int who, int kind, size n) {
     return sum;
 }
 
+/* How many notes of n bytes the byte engine writes in a round. */
+static size notes_of(size n) { return n > 40 ? 1 : n == 40 ? 10000 : 1000; }
+
+static size notes_by_c(const u8 *notes, size len, size n, int tabled) {
+    size zeros = 0;
+    for (size at = 0; at < len; at += n) zeros += (tabled ? write_tabled : write_line)(notes + at, n, out, LINE, 3);
+    return zeros;
+}
+
+static size engine_job(char what, int who, size n) {
+    size len = n * notes_of(n);
+    if (who == 2) return sio_notes_by_bytes(month, len, out, LINE, n);
+    return what == 'b' ? sio_notes_by_bits(month, len, out, LINE, n) : notes_by_c(month, len, n, what == 'k');
+}
+
+/* The notes, and how many line bits they have. */
+static size fill_month(int kind, size n, size round) {
+    static u32 seed = 1;
+    size bits = 0;
+    for (size i = 0; i < n * notes_of(n); i++) {
+        seed ^= seed << 13, seed ^= seed >> 17, seed ^= seed << 5;
+        month[i] = kind == 0 ? (u8)(i * 167 + 13 + round) : kind == 1 ? 0xFF : kind == 2 ? 0 : (u8)seed;
+    }
+    for (size i = 0; i < notes_of(n); i++) bits += write_line(month + i * n, n, line, LINE, 0) + 8 * (n + 2) + 16;
+    return bits;
+}
+
 static size job(char what, int who, int kind, size n, size bits, size *told) {
     _Bool both = what == 'T' || what == 'R';
-    u8 wr4 = what == 'm' || what == 'M' ? 0x00 : what == 'b' || what == 'B' ? 0x10 : 0x20;
+    u8 wr4 = what == 'm' || what == 'M' ? 0x00 : what == 'y' || what == 'Y' ? 0x10 : 0x20;
     switch (what) {
-    case 't': case 'T': case 'm': case 'b':
+    case 't': case 'T': case 'm': case 'y':
         return who == 1 ? c_transmit(note, n, out, TICKS, TICKS, both, wr4) : sio_transmit(note, n, out, TICKS, TICKS, both, wr4);
-    case 'r': case 'R': case 'M': case 'B':
+    case 'r': case 'R': case 'M': case 'Y':
         return who == 1 ? c_receive(line, bits, out, TICKS, TICKS, both, wr4) : sio_receive(line, bits, out, TICKS, TICKS, both, wr4);
     case 's': return who == 1 ? c_send(note, n, told, NOTES) : sio_send(note, n, told, 2, NOTES);
     case 'a': case 'z': case 'j': case 'w': return check_jobs(what, who, kind, n);
     case 'c': return who == 1 ? zeros_counted(note, n) : sio_zeros_of(note, n);
     case 'C': return who == 1 ? zeros_laid(note, n) : sio_zeros_of(note, n);
+    case 'b': case 'i': case 'k': return engine_job(what, who, n);
+    case 'u': return who == 1 ? sio_write_line(note, n, out, LINE, 3) : sio_engine(note, n, out, LINE, 3);
     case 'p': case 'P': return who == 1 ? page_ticks(list, LIST, what == 'P') : sio_page_ticks(list, LIST);
     default: return who == 1 ? write_line(note, n, out, LINE, 3) : sio_write_line(note, n, out, LINE, 3);
     }
@@ -185,11 +221,14 @@ int main(void) {
     for (size i = 0; i < n; i++) note[i] = kind == 0 ? (u8)(i * 167 + 13) : kind == 1 ? 0xFF : 0;
     size zeros = write_line(note, n, line, LINE, 0), bits = zeros + 8 * (n + 2) + 8;      /* no closing flag: the next opening one closes the frame */
     _Bool checks = what == 'a' || what == 'z' || what == 'j' || what == 'w';
+    _Bool engine = what == 'b' || what == 'i' || what == 'k';
     _Bool counts = what == 'c' || what == 'C', pages = what == 'p' || what == 'P';
-    size units = what == 's' ? NOTES * (bits + 8) : what == 'l' ? bits + 8 : checks ? CHECKS : counts ? 8 * n : pages ? fill_list(n) : TICKS;
+    size units = what == 's' ? NOTES * (bits + 8) : what == 'l' || what == 'u' ? bits + 8 : engine ? fill_month(kind, n, 0) : checks ? CHECKS : counts ? 8 * n : pages ? fill_list(n) : TICKS;
     if (checks && n < PRINTED) return 1;
-    if (what == 'M' || what == 'B') bits = fill_block(n);
+    if (what == 'M' || what == 'Y') bits = fill_block(n);
+    make_tables();
     for (size r = 0; r < rounds; r++) {
+        if (engine && kind == 3) fill_month(kind, n, r);
         if (checks) {
             heading = ~check_text(POLYNOMIAL, PRESET, note, PRINTED);
             body = ~check_text(POLYNOMIAL, PRESET, note + PRINTED, n - PRINTED);

@@ -1,220 +1,120 @@
--- Demand 3's abort: eight ones and a new flag go out whatever the unit was, and no receiver of this product reports an end for the frame.
--- Assumes nothing.
-use mathlib.Core.Path.{_≡_, refl, sym, ap, ap₂, _∙_}
+-- Demand 3's abort, from the host's write to what another chip tells. Assumes nothing.
+use mathlib.Core.Path.{_≡_, refl, sym, ap, ap₂, _∙_, subst}
 use mathlib.Core.Bool.{Bool, true, false}
 use mathlib.Core.List.{List, [], _∷_, _++_, append-assoc}
-use Prim.Native.Nat.{ℕ, zero, suc, _+_, _-_, _≤_, _<_}
+use Prim.Native.Nat.{ℕ, _+_, _≤_}
 use native.Mathlib.Omega.{arith}
-use lib.Dec.{eqb}
-use lib.ListN.{length, take, drop, replicate, length-append, length-take, take-append-drop}
-use lib.ListN.{drop-of-length-le}
-use lib.Seq.{take-append-le, take-append-add, take-take, take-at}
-use Rattle.common.specs.Tools.{if-elim, lt-or}
-use Rattle.line.specs.Insertion.{stuff}
-use Rattle.line.specs.Frame.{flagBits, contentOf, frame}
-use Rattle.line.specs.Laws.Frame.{ticks-are}
-use Rattle.shared.specs.declared.Shared.{Shared}
-use Rattle.sdlc.specs.declared.LineUnit.{LineUnit}
-use Rattle.sdlc.specs.declared.LineUnit.the-variants.{Mark, Flag, Byte, Check, Abort}
-use Rattle.sdlc.specs.declared.Framer.{Framer}
-use Rattle.sdlc.specs.declared.Framed.{Framed}
-use Rattle.sdlc.specs.Sending.{insertion, notCounted, framer, sentBit, flagBit, tickSdlc, aborting}
-use Rattle.sdlc.specs.Laws.Tick.{tick-flag, tick-abort, tick-chooses, next-abort, abort-cuts}
-use Rattle.sender.specs.Sender.{framerOf, framerIn}
-use Rattle.sender.specs.Good.{Good}
-use Rattle.sender.specs.Laws.Tick.{abort-sdlc}
-use Rattle.settings.specs.Settings.{commandIn, presetIn}
-use Rattle.channel.specs.declared.Side.{Side}
-use Rattle.channel.specs.declared.Channel.{Channel}
-use Rattle.channel.specs.Channel.{settled}
-use Rattle.channel.specs.Control.{commanded, preset, commandStep, presetStep, writeWr0}
-use Rattle.channel.specs.Control.{controlWritten}
+use lib.ListN.{take, drop, replicate, take-append-drop}
+use Rattle.sdlc.specs.declared.LineUnit.the-variants.{Abort}
+use Rattle.sdlc.specs.declared.Addressing.{Addressing}
+use Rattle.sdlc.specs.declared.Listener.{Listener}
 use Rattle.chip.specs.declared.Chip.{Chip}
-use Rattle.chip.specs.Chip.{controlWriteA, controlWrite}
-use Rattle.chip.specs.Event.{Event, ControlWrite, Transmit}
-use Rattle.whole.specs.Come.{flagTail}
-use Rattle.whole.specs.Stage.{Stage, opening, inByte, inCheck, closing}
-use Rattle.whole.specs.Start.{flagHead}
-use Rattle.whole.specs.Heard.{hearAll, flagFree, onesOver, lead}
-use Rattle.whole.specs.Laws.Deaf.{content-free, free-front, ones-counted, abort-no-end}
-use Rattle.stories.specs.Story.{Which, A, B, number, chan, happens, after}
+use Rattle.chip.specs.Event.{Event, ControlWrite}
+use Rattle.whole.specs.Heard.{Final, hearAll, flagFree, lead, endMarks}
+use Rattle.whole.specs.Laws.Heard.{hear-join}
+use Rattle.whole.specs.Laws.Deaf.{end-marks-join}
+use Rattle.stories.specs.Story.{Which, number, chan, happens, after}
 use Rattle.stories.specs.Sent.{lineOf, ticks}
-use Rattle.receiving.specs.Untold.{abort-untold}
-use Rattle.history.specs.Sending.Side.{good, good-of, SenderSide, sendingIn, sideIn, sideOf}
-use Rattle.aborts.specs.Statement.{SendsAbort, LeftToRun, ended, kept, ticking, AbortCuts, AbortUntold}
-use Rattle.history.specs.Sending.Events.{tickedOf, tick-side, tick-bit, tick-counts, skip-line}
-use Rattle.history.specs.Sending.Events.{skip-ticks, line-join}
-use Rattle.sending.specs.Frame.{frame-kept, frame-begun}
-use Rattle.channel.specs.declared.Side.the-variants as channels
-use Rattle.whole.specs.Come as come
+use Rattle.stories.specs.Received.{bitsOf}
+use Rattle.history.specs.Sending.Side.{good-of, sendingIn}
+use Rattle.history.specs.Sending.Events.{skip-line, line-join}
+use Rattle.history.specs.Receiving.Side as receiving
+use Rattle.history.specs.Receiving.Events.{Hearing}
+use Rattle.hosts.specs.Loaded.{loaded, passed}
+use Rattle.hosts.specs.Line.{every-host}
+use Rattle.aborts.specs.Statement.{Cuts, LeftToRun, abortLine, sent, AbortCuts, AbortUntold, AbortDeaf}
+use Rattle.aborts.specs.Statement.{waitingOf, Listens, endsTold}
+use Rattle.aborts.specs.Cut.{CutFrom, abort-cut, runs-line}
+use Rattle.aborts.specs.Heard.{cut-silent}
+use Rattle.aborts.specs.Told.{told-few, attends-front}
 
--- Send Abort cuts the unit off
+module _ (w : Which) (c : Chip) (p : ℕ) (xs : List Event) (v : ℕ) (k : Cuts w c p xs v) where
+  pub cut : CutFrom (chan w (after c xs)) (chan w (happens (after c xs) (ControlWrite (number w) v) .chip))
+  cut =
+      let h = every-host w c p xs (k .start) (k .host) in
+      abort-cut w (after c xs) v (k .write) (good-of (sendingIn (chan w (after c xs))) (h .heeds)) (h .uncut)
 
--- the channel's sender is in an abort's d bits, nothing is owed, and it heeds the same
-abbrev CutFrom : Channel → Channel → Type 0
-CutFrom c d = (d .sender .unit ≡ Abort 8) × (d .sender .insertion .owed ≡ false) × (sideIn d .heeds ≡ sideIn c .heeds)
-
-command-cuts : (c : Channel) (k : ℕ) → k ≡ 1 → Good (sendingIn c) → aborting (c .sender .unit) ≡ false → CutFrom c (commanded c k)
-unfolding commanded
-command-cuts c k e h a =
-    let q : eqb k 1 ≡ true = ap (λ (n : ℕ). eqb n 1) e in
-    let g = sendingIn c in
-    let cut = abort-sdlc g (c .sender) (h .sdlc-mode)
-    ∙ ap (framerIn (c .sender)) (abort-cuts (g .framing) (framerOf (c .sender)) (h .on) a) in
-    rw (q, cut) (refl, refl, refl)
-
-preset-cut : (c d : Channel) (k : ℕ) → CutFrom c d → CutFrom c (preset d k)
-unfolding preset
-preset-cut c d k h = if-elim (CutFrom c) (eqb k 1) h (if-elim (CutFrom c) (eqb k 2) h (if-elim (CutFrom c) (eqb k 3) h h))
-
-write-cuts : (c : Channel) (s : Side) (v : ℕ) → c .pointer ≡ 0 → commandIn v ≡ 1 → Good (sendingIn c) → aborting (c .sender .unit) ≡ false
-    → CutFrom c (controlWritten c s v .channel)
-unfolding controlWritten writeWr0 commandStep presetStep settled
-write-cuts c s v p e h a =
-    let x : eqb (c .pointer) 0 ≡ true = ap (λ (n : ℕ). eqb n 0) p in
-    let y : eqb (commandIn v) 3 ≡ false = ap (λ (n : ℕ). eqb n 3) e in
-    rw (x, y) (preset-cut c (settled c (commanded c (commandIn v))) (presetIn v) (command-cuts c (commandIn v) e h a))
-
-abort-cut : (w : Which) (c : Chip) (v : ℕ) → SendsAbort w c v → Good (sendingIn (chan w c)) → aborting (chan w c .sender .unit) ≡ false
-    → CutFrom (chan w c) (chan w (happens c (ControlWrite (number w) v) .chip))
-unfolding controlWrite controlWriteA
-abort-cut A c v s h a =
-    let x : eqb (c .a .pointer) 0 ≡ true = ap (λ (n : ℕ). eqb n 0) (s .to-wr0) in
-    let y : eqb (commandIn v) 7 ≡ false = ap (λ (n : ℕ). eqb n 7) (s .command) in
-    rw (x, y) (write-cuts (c .a) channels.A v (s .to-wr0) (s .command) h a)
-abort-cut B c v s h a = write-cuts (c .b) channels.B v (s .to-wr0) (s .command) h a
-
--- An abort that is left to run
-
--- what it still puts on the line, the flag behind it included
-abbrev running : LineUnit → List Bool
-running Mark = []
-running (Flag n) = flagTail n
-running (Byte n v) = []
-running (Check n v) = []
-running (Abort n) = replicate n true ++ flagBits
-
-record Runs (u : LineUnit) (r : ℕ) (k : Shared) : Type 0 where
-  pub sent : Bool
-  pub next : LineUnit
-  pub ticks-to : tickSdlc come.good (framer u (insertion r false) k) ≡ sentBit sent next notCounted k
-  pub head : running u ≡ sent ∷ running next
-
-runs : (u : LineUnit) (r : ℕ) (k : Shared) → 1 ≤ length (running u) → Runs u r k
-runs Mark r k l = absurd (omega arith)
-runs (Flag zero) r k l = absurd (omega arith)
-runs (Flag (suc n)) r k l =
-    record { sent = flagBit (suc n); next = Flag n; ticks-to = tick-flag come.good k n r; head = refl }
-runs (Byte n v) r k l = absurd (omega arith)
-runs (Check n v) r k l = absurd (omega arith)
-runs (Abort zero) r k l = record {
-  sent = false;
-  next = Flag 7;
-  ticks-to = tick-chooses come.good r k (Abort 0) refl ∙ next-abort come.good r k refl 0;
-  head = refl;
-}
-runs (Abort (suc n)) r k l =
-    record { sent = true; next = Abort n; ticks-to = tick-abort come.good k n r; head = refl }
-
-tick-more : (w : Which) (st : List Event) → ticks w (Transmit (number w) ∷ st) ≡ suc (ticks w st)
-unfolding ticks
-tick-more w st = rw (tick-counts w) (omega arith)
-
-runs-line : (w : Which) {c : Chip} {st : List Event} → LeftToRun w c st → sideOf w c .heeds ≡ good → (u : LineUnit) → chan w c .sender .unit ≡ u
-    → chan w c .sender .insertion .owed ≡ false → ticks w st ≤ length (running u) → lineOf w c st ≡ take (ticks w st) (running u)
-unfolding lineOf ticks
-runs-line w ended h u e o l = refl
-runs-line w (kept {c = c} {e = x} {st = st} z k f) h u e o l =
-    skip-line w c x st z ∙ runs-line w f (k .2 ∙ h) u (k .0 ∙ e) (k .1 ∙ o) (omega (arith, skip-ticks w x st z))
-    ∙ ap (λ (n : ℕ). take n (running u)) (sym (skip-ticks w x st z))
-runs-line w (ticking {c = c} {st = st} f) h u e o l =
-    let s = chan w c .sender in
-    let m = tick-more w st in
-    let run = s .insertion .run in
-    let t = runs u run (s .shared) (omega arith) in
-    let p : framerOf s ≡ framer u (insertion run false) (s .shared) =
-    λ i. framer (e i) (insertion run (o i)) (s .shared) in
-    let q : tickedOf w c ≡ sentBit (t .sent) (t .next) notCounted (s .shared) =
-    ap (tickSdlc come.good) p ∙ t .ticks-to in
-    let d = happens c (Transmit (number w)) .chip in
-    let y = tick-side w c h in
-    let i = runs-line w f (ap (λ (x : SenderSide). x .heeds) y) (t .next)
-    (ap (λ (x : SenderSide). x .sender .unit) y ∙ ap (λ (x : Framed). x .framer .unit) q)
-    (ap (λ (x : SenderSide). x .sender .insertion .owed) y ∙ ap (λ (x : Framed). x .framer .insertion .owed) q)
-    (omega (arith, ap length (t .head))) in
-    ap (λ (b : List Bool). b ++ lineOf w d st) (tick-bit w c h ∙ ap (λ (x : Framed). x .bit ∷ []) q)
-    ∙ ap (λ (b : List Bool). t .sent ∷ b) i
-    ∙ sym (ap₂ (λ (n : ℕ) (b : List Bool). take n b) m (t .head))
-
--- Behind its first flag, a frame that is cut before its last bit holds no flag
-
-free-behind : (o m : ℕ) (note : List ℕ) → m < length (frame note)
-    → flagFree (onesOver o (take 8 (take m (frame note)))) (drop 8 (take m (frame note))) ≡ true
-free-behind o m note l = lt-or m 9 few more
-  where
-    body : List Bool
-    body = stuff 0 (contentOf note) ++ lead
-
-    whole : frame note ≡ flagBits ++ (body ++ (false ∷ []))
-    whole = ap (λ (x : List Bool). flagBits ++ x) (sym (append-assoc (stuff 0 (contentOf note)) lead (false ∷ [])))
-
-    few : m < 9 → flagFree (onesOver o (take 8 (take m (frame note)))) (drop 8 (take m (frame note))) ≡ true
-    few h =
-        let e : drop 8 (take m (frame note)) ≡ [] = drop-of-length-le (take m (frame note)) {i = 8} (omega (arith, length-take m (frame note))) in
-        rw e (unfold flagFree in refl)
-
-    more : 9 ≤ m → flagFree (onesOver o (take 8 (take m (frame note)))) (drop 8 (take m (frame note))) ≡ true
-    more h =
-        let k = m - 8 in
-        let n : m ≡ length flagBits + k = omega arith in
-        let j : k ≤ length body = omega (arith, ap length whole, length-append body (false ∷ [])) in
-        let e : take m (frame note) ≡ flagBits ++ take k body =
-        ap₂ (λ (x : ℕ) (y : List Bool). take x y) n whole ∙ take-append-add flagBits (body ++ (false ∷ [])) k
-        ∙ ap (λ (x : List Bool). flagBits ++ x) (take-append-le k body (false ∷ []) j) in
-        ap (λ (x : List Bool). flagFree (onesOver o (take 8 x)) (drop 8 x)) e
-        ∙ unfold onesOver in (free-front 0 (take k body) (drop k body) (ap (flagFree 0) (take-append-drop k body) ∙ content-free (contentOf note)))
-
-not-aborting : {s : Framer} {n : ℕ} {rest : List ℕ} → Stage false s n rest → aborting (s .unit) ≡ false
-not-aborting (opening k b f c n rest m p) = refl
-not-aborting (inByte k v r o b f c n rest m) = refl
-not-aborting (inCheck k v r o b f c n) = refl
-not-aborting (closing k b f c n) = refl
+  cut-line : (ys : List Event) → LeftToRun w (happens (after c xs) (ControlWrite (number w) v) .chip) ys
+      → ticks w ys ≤ 16 → lineOf w (after c xs) (ControlWrite (number w) v ∷ ys) ≡ take (ticks w ys) abortLine
+  cut-line ys f m =
+      let h = every-host w c p xs (k .start) (k .host) in
+      skip-line w (after c xs) (ControlWrite (number w) v) ys refl
+      ∙ runs-line w f (cut .2 ∙ h .heeds) (Abort 8) (cut .0) (cut .1) m
 
 pub abort3 : AbortCuts
-abort3 w c p v vs left xs x s i n a =
-    let note = v ∷ vs in
-    let t = ticks-are note in
-    let k = frame-kept w c p v vs left xs s i (omega arith) in
-    let h : sideOf w (after c xs) .heeds ≡ good = ap (λ (y : SenderSide). y .heeds) (k .0 .there) in
-    let z = ap (λ (y : SenderSide). aborting (y .sender .unit)) (k .0 .there) ∙ not-aborting (k .0 .stage) in
-    let cut = abort-cut w (after c xs) x a (good-of (sendingIn (chan w (after c xs))) h) z in
-    let b = frame-begun w c p v vs left xs s i (omega arith) in
-    let sent = flagHead p ++ lineOf w c xs in
+abort3 w c p xs v k =
+    let h = every-host w c p xs (k .start) (k .host) in
     record {
       line = λ ys f m.
-          line-join w c xs (ControlWrite (number w) x ∷ ys)
-          ∙ ap (λ (l : List Bool). lineOf w c xs ++ l)
-          (skip-line w (after c xs) (ControlWrite (number w) x) ys refl ∙ runs-line w f (cut .2 ∙ h) (Abort 8) (cut .0) (cut .1) m);
-      no-end = λ g r zs y f.
-          abort-no-end g (hearAll g r (take 8 sent) .listener) (drop 8 sent) 8 zs y (omega arith)
-          (ap (λ (q : ℕ). flagFree q (drop 8 sent)) (ones-counted g r (take 8 sent))
-          ∙ ap (λ (l : List Bool). flagFree (onesOver (r .content .ones) (take 8 l)) (drop 8 l)) b
-          ∙ free-behind (r .content .ones) (p + ticks w xs) note (omega arith)) f;
+          line-join w c xs (ControlWrite (number w) v ∷ ys)
+          ∙ ap (λ (l : List Bool). lineOf w c xs ++ l) (cut-line w c p xs v k ys f m);
+      no-end = λ g r zs b f.
+          ap (λ (x : List Bool). endMarks (hearAll g (hearAll g r (take 8 x) .listener)
+          (drop 8 x ++ (replicate 8 true ++ (zs ++ (b ∷ [])))) .got)) (h .begun)
+          ∙ cut-silent g zs b f r (passed w c xs) (loaded w c xs) (p + ticks w xs) (h .begins) (h .unfinished (k .before));
     }
 
-flag-ones : (o : ℕ) → onesOver o flagBits ≡ 0
-unfolding onesOver
-flag-ones o = refl
+lead-free : flagFree 7 lead ≡ true
+unfolding flagFree
+lead-free = refl
+
+-- a front part of a line tells no more ends than the line
+front-few : (g : Addressing) (s : Listener) (xs ys : List Bool) (n : ℕ)
+    → endMarks (hearAll g s (xs ++ take n ys) .got) ≤ endMarks (hearAll g s (xs ++ ys) .got)
+front-few g s xs ys n =
+    let a = xs ++ take n ys in
+    let e : xs ++ ys ≡ a ++ drop n ys =
+    ap (λ (l : List Bool). xs ++ l) (sym (take-append-drop n ys)) ∙ sym (append-assoc xs (take n ys) (drop n ys)) in
+    let f = hearAll g s a in
+    let more = hearAll g (f .listener) (drop n ys) .got in
+    omega (
+      arith,
+      ap (λ (l : List Bool). endMarks (hearAll g s l .got)) e,
+      ap (λ (x : Final). endMarks (x .got)) (hear-join g s a (drop n ys)),
+      end-marks-join (f .got) more,
+    )
+
+-- a receiver's story in two parts: the ends told in the second are those that wait before it and those that it hears
+heard-few : (u : Which) (r : Chip) (qs rs : List Event) (first bits : List Bool) → Listens u r (qs ++ rs) → bitsOf u qs ≡ first
+    → bitsOf u rs ≡ bits
+    → let x = receiving.sideOf u r in
+    let g = x .settings .addressing in
+    endsTold u (after r qs) rs
+    ≤ endMarks (waitingOf u (after r qs)) + endMarks (hearAll g (hearAll g (x .listener) first .listener) bits .got)
+heard-few u r qs rs first bits l b d =
+    let x = receiving.sideOf u r in
+    let g = x .settings .addressing in
+    let i = attends-front u qs (l .attends) (l .hearing) in
+    let y = receiving.sideOf u (after r qs) in
+    let hearing : Hearing (y .settings) = subst Hearing (sym (i .0 .settings)) (l .hearing) in
+    let there : y .listener ≡ hearAll g (x .listener) first .listener =
+    i .0 .listener ∙ ap (λ (z : List Bool). hearAll g (x .listener) z .listener) b in
+    let same : endMarks (hearAll (y .settings .addressing) (y .listener) (bitsOf u rs) .got)
+    ≡ endMarks (hearAll g (hearAll g (x .listener) first .listener) bits .got) =
+    ap (λ (z : receiving.Heeded). endMarks (hearAll (z .addressing) (y .listener) (bitsOf u rs) .got)) (i .0 .settings)
+    ∙ ap₂ (λ (z : Listener) (t : List Bool). endMarks (hearAll g z t .got)) there d in
+    omega (arith, told-few u (i .1) hearing, same)
 
 pub abort-unheard : AbortUntold
-abort-unheard w c p v vs left xs s i n l u r rs parity overrun es zs b m o z h e f k j =
-    let t = ticks-are (v ∷ vs) in
-    let sent = flagHead p ++ lineOf w c xs in
-    let q = frame-begun w c p v vs left xs s i (omega arith) in
-    let first : take 8 sent ≡ flagBits =
-    ap (take 8) q ∙ take-take 8 (p + ticks w xs) (frame (v ∷ vs)) n ∙ take-at flagBits (stuff 0 (contentOf (v ∷ vs)) ++ flagBits) 8 refl in
-    let y : flagFree (chan u r .receiver .content .ones) (drop 8 sent) ≡ true =
-    ap (λ (x : ℕ). flagFree x (drop 8 sent)) (z ∙ sym (ap (onesOver 0) first ∙ flag-ones 0))
-    ∙ ap (λ (x : List Bool). flagFree (onesOver 0 (take 8 x)) (drop 8 x)) q
-    ∙ free-behind 0 (p + ticks w xs) (v ∷ vs) (omega arith) in
-    abort-untold u r rs parity overrun es (drop 8 sent) 8 zs b (record { mode = m; on = o }) h e f k (omega arith) y j
+abort-unheard w c p xs ys v k f m u r qs rs l b d =
+    let x = receiving.sideOf u r in
+    let g = x .settings .addressing in
+    let first = take 8 (sent w c p xs) in
+    let more = drop 8 (sent w c p xs) in
+    let bits : bitsOf u rs ≡ more ++ take (ticks w ys) abortLine =
+    d ∙ ap (λ (z : List Bool). more ++ z) (cut-line w c p xs v k ys f m) in
+    omega (
+      arith,
+      heard-few u r qs rs first (more ++ take (ticks w ys) abortLine) l b bits,
+      front-few g (hearAll g (x .listener) first .listener) more abortLine (ticks w ys),
+      abort3 w c p xs v k .no-end g (x .listener) lead false lead-free,
+    )
+
+pub abort-deaf : AbortDeaf
+abort-deaf w c p xs v k u r qs rs zs y l b d f =
+    let x = receiving.sideOf u r in
+    omega (
+      arith,
+      heard-few u r qs rs (take 8 (sent w c p xs)) (drop 8 (sent w c p xs) ++ (replicate 8 true ++ (zs ++ (y ∷ [])))) l b d,
+      abort3 w c p xs v k .no-end (x .settings .addressing) (x .listener) zs y f,
+    )

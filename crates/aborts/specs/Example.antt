@@ -1,99 +1,142 @@
--- The stories of an abort, computed: a frame that is cut off, and what B of another chip hears of it. Then the
--- theorems, said of them. Assumes nothing.
+-- Aborts, computed: amid a byte, inside the opening flag, and by a host whose receiver is not read, so that its queue
+-- overflows; and the frame that follows. Then the theorems, said of them. Assumes nothing.
 use mathlib.Core.Path.{_≡_, refl}
 use mathlib.Core.Bool.{Bool, true, false}
 use mathlib.Core.List.{List, [], _∷_, _++_}
-use Prim.Native.Nat.{ℕ}
+use Prim.Native.Nat.{ℕ, _≤_}
 use native.Mathlib.Omega.{arith}
-use lib.ListN.{replicate, drop}
-use Rattle.line.specs.Bits.{lowBits, textBits}
-use Rattle.line.specs.Check.{ones, checkStep, checkOver, topBits, checkBits}
-use Rattle.line.specs.Insertion.{stuff, zeros}
-use Rattle.line.specs.Frame.{flagBits, frame}
+use lib.ListN.{take, drop, replicate}
+use Rattle.line.specs.Frame.{frame}
 use Rattle.receiver.specs.Receiver.{listenerOf, reset}
 use Rattle.chip.specs.Computing.{computing}
-use Rattle.chip.specs.Event.{Event, ControlWrite, DataRead}
-use Rattle.whole.specs.Start.{flagHead}
-use Rattle.whole.specs.Heard.{hearAll, endMarks, flagFree, lead}
-use Rattle.stories.specs.Story.{A, chan, happens, after, B}
-use Rattle.stories.specs.Sent.{lineOf, ticks}
-use Rattle.stories.specs.Sending.{times, begin, whole}
-use Rattle.stories.specs.Sending.{begun, sendAbort, gone, told}
-use Rattle.aborts.specs.Statement.{SendsAbort, Aborted}
-use Rattle.aborts.specs.Abort.{abort3, abort-unheard}
-use Rattle.timely.specs.Tests.{in-time, freely}
-use Rattle.common.specs.declared.Mode.the-variants.{Sdlc}
-use Rattle.queue.specs.Holding.{Holds, h0}
 use Rattle.chip.specs.declared.Chip.{Chip}
+use Rattle.chip.specs.Event.{Event, ControlWrite, DataWrite}
+use Rattle.whole.specs.Heard.{hearAll, endMarks}
+use Rattle.stories.specs.Story.{A, B, chan, happens, after}
+use Rattle.stories.specs.Sent.{lineOf, ticks}
 use Rattle.stories.specs.Received.{bitsOf}
+use Rattle.stories.specs.Sending.{times, tick, begin, begun, sendAbort, gone}
 use Rattle.stories.specs.Receiving.{listening, story}
-use Rattle.history.specs.Receiving.Side.{sideOf}
-use Rattle.receiving.specs.Statement.{NoEndTold}
-use Rattle.receiving.specs.Room.{inRoom, fed}
 use Rattle.history.specs.Receiving.Side as receiving
+use Rattle.history.specs.Receiving.Events.{Hearing}
+use Rattle.timely.specs.Tests.{freely, free-of}
 use Rattle.sending.specs.Example as sending
+use Rattle.sending.specs.Statement.{anew}
+use Rattle.hosts.specs.Loaded.{loaded, passed, flags, closed}
+use Rattle.hosts.specs.Tests.{hosting, host-of}
+use Rattle.aborts.specs.Statement.{Cuts, sent, abortLine, waitingOf, Aborted, endsTold}
+use Rattle.aborts.specs.Abort.{abort3, abort-unheard}
+use Rattle.aborts.specs.Next.{after-abort}
+use Rattle.aborts.specs.Tests.{free-runs, attending, attends-of}
 
 -- a receiver behind a reset, in SDLC and on, that hears a line: the end marks
 abbrev pub endsIn : List Bool → ℕ
 endsIn line = endMarks (hearAll (receiving.sideOf A begin .settings .addressing) (listenerOf reset) line .got)
 
--- the bits of the sender's line, from the first bit of its opening flag on
-abbrev pub sent : List Event → List Bool
-sent st = flagHead 3 ++ lineOf A begin st
+-- eight bytes are begun, each written when the one before it is loaded
+abbrev pub long : List Event
+long = times 8 (DataWrite 0 7 ∷ times 8 tick)
 
--- B hears each bit and is read behind it
-abbrev pub hears : List Bool → List Event
-hears line = story B (DataRead 1 ∷ []) line
+-- five bits of the opening flag are sent
+abbrev pub early : List Event
+early = times 2 tick
 
--- B just past the opening flag, and what it hears from there on: the frame as far as it was sent, eight ones, and the next flag
-abbrev pub past : Chip
-past = after (listening B) (hears flagBits)
+-- B hears a line and is not read
+abbrev pub unread : List Bool → List Event
+unread line = story B [] line
 
-abbrev pub cut : List Bool
-cut = drop 8 (sent begun) ++ (replicate 8 true ++ (lead ++ (false ∷ [])))
+-- the opening flag, or what was sent of it; then the rest, the eight ones and the next flag
+abbrev pub firstOf : List Event → List Event
+firstOf xs = unread (take 8 (sent A begin 3 xs))
+
+abbrev pub restOf : List Event → List Event
+restOf xs = unread (drop 8 (sent A begin 3 xs) ++ lineOf A (after begin xs) (ControlWrite 0 sendAbort ∷ gone))
+
+abbrev pub cutChip : List Event → Chip
+cutChip xs = happens (after begin xs) (ControlWrite 0 sendAbort) .chip
+
+-- a byte is written behind the abort, a preset and a clear
+abbrev pub next : List Event
+next = DataWrite 0 7 ∷ times 48 tick
+
+pub record Cut (xs : List Event) : Type 0 where
+  pub hosted : hosting A begin xs ≡ true
+  pub before : closed A (after begin xs) ≡ false
+  pub to-wr0 : chan A (after begin xs) .pointer ≡ 0
+  pub runs : freely A (cutChip xs) gone ≡ true
+  pub attends : attending B (listening B) (firstOf xs ++ restOf xs) ≡ true
+  pub first-bits : bitsOf B (firstOf xs) ≡ take 8 (sent A begin 3 xs)
+  pub rest-bits : bitsOf B (restOf xs) ≡ drop 8 (sent A begin 3 xs) ++ lineOf A (after begin xs) (ControlWrite 0 sendAbort ∷ gone)
+  pub none-waits : endMarks (waitingOf B (after (listening B) (firstOf xs))) ≡ 0
 
 pub record Examples : Type 0 where
-  -- the receiver tells no end, and would have told one of the whole frame
-  pub aborts : SendsAbort A (after begin begun) sendAbort
-  pub gone-free : freely A (happens (after begin begun) (ControlWrite 0 sendAbort) .chip) gone ≡ true
-  pub no-end : endsIn (flagHead 3 ++ (lineOf A begin begun ++ (replicate 8 true ++ flagBits))) ≡ 0
+  pub amid : Cut begun
+  pub in-flag : Cut early
+  pub overflows : Cut long
+  pub overran : chan B (after (listening B) (firstOf long ++ restOf long)) .queue .count ≡ 3
+  pub no-end : endsIn (sent A begin 3 begun ++ abortLine) ≡ 0
   pub an-end : endsIn (frame (1 ∷ 2 ∷ [])) ≡ 1
-  -- and so of another chip
-  pub mode : receiving.sideOf B past .settings .mode ≡ Sdlc
-  pub on : receiving.sideOf B past .settings .on ≡ true
-  pub past-flag : chan B past .receiver .content .ones ≡ 0
-  pub empty : Holds false false (chan B past .queue) []
-  pub cut-room : inRoom B past (hears cut) ≡ true
-  pub cut-bits : bitsOf B (hears cut) ≡ cut
-  pub no-flag : flagFree 7 lead ≡ true
+  pub settings : Hearing (receiving.sideOf B (listening B) .settings)
+  pub pointer : chan A (cutChip begun) .pointer ≡ 0
+  pub next-hosted : hosting A (after (cutChip begun) (anew A)) next ≡ true
+  pub next-loaded : loaded A (after (cutChip begun) (anew A)) next ≡ 7 ∷ []
+  pub next-passed : passed A (after (cutChip begun) (anew A)) next ≡ 0
+  pub next-closed : closed A (after (after (cutChip begun) (anew A)) next) ≡ true
 
 pub examples : Examples
-unfolding computing freely hearAll inRoom flagFree bitsOf story times lineOf ticks after zeros
+unfolding computing hosting freely attending hearAll bitsOf story times lineOf after loaded passed
 examples = record {
-  aborts = record { to-wr0 = refl; command = refl };
-  gone-free = refl;
+  amid = record { hosted = refl; before = refl; to-wr0 = refl; runs = refl; attends = refl; first-bits = refl; rest-bits = refl; none-waits = refl };
+  in-flag = record { hosted = refl; before = refl; to-wr0 = refl; runs = refl; attends = refl; first-bits = refl; rest-bits = refl; none-waits = refl };
+  overflows = record { hosted = refl; before = refl; to-wr0 = refl; runs = refl; attends = refl; first-bits = refl; rest-bits = refl; none-waits = refl };
+  overran = refl;
   no-end = refl;
   an-end = refl;
-  mode = refl;
-  on = refl;
-  past-flag = refl;
-  empty = h0;
-  cut-room = refl;
-  cut-bits = refl;
-  no-flag = refl;
+  settings = record { mode = refl; on = refl };
+  pointer = refl;
+  next-hosted = refl;
+  next-loaded = refl;
+  next-passed = refl;
+  next-closed = refl;
 }
 
 -- the theorems speak of these stories
 
-aborted-sent : Aborted A begin 3 begun sendAbort
-unfolding ticks times stuff zeros textBits lowBits checkOver checkStep checkBits topBits
-aborted-sent =
-    abort3 A begin 3 1 (2 ∷ []) [] begun sendAbort sending.starts (in-time A begin 2 (1 ∷ 2 ∷ []) begun (sending.examples .begun-timely)) (omega arith)
-    (examples .aborts)
+cuts : (xs : List Event) → Cut xs → Cuts A begin 3 xs sendAbort
+cuts xs k = record {
+  start = sending.starts;
+  host = host-of A begin xs (k .hosted);
+  before = k .before;
+  write = record { to-wr0 = k .to-wr0; command = refl };
+}
 
-cut-unheard : NoEndTold B past (hears cut) false false
-unfolding ticks times stuff zeros textBits lowBits checkOver checkStep checkBits topBits
-cut-unheard =
-    abort-unheard A begin 3 1 (2 ∷ []) [] begun sending.starts (in-time A begin 2 (1 ∷ 2 ∷ []) begun (sending.examples .begun-timely)) (omega arith)
-    (omega arith) B past (hears cut) false false [] lead false (examples .mode) (examples .on) (examples .past-flag) (examples .empty) refl
-    (fed B past (hears cut) (examples .cut-room)) (examples .cut-bits) (examples .no-flag)
+aborted-sent : Aborted A begin 3 begun sendAbort
+aborted-sent = abort3 A begin 3 begun sendAbort (cuts begun (examples .amid))
+
+unheard : (xs : List Event) → Cut xs → endsTold B (after (listening B) (firstOf xs)) (restOf xs) ≤ 0
+unfolding ticks times
+unheard xs k =
+    omega (
+      arith,
+      k .none-waits,
+      abort-unheard A begin 3 xs gone sendAbort (cuts xs k) (free-runs A (free-of A (cutChip xs) gone (k .runs))) (omega arith) B
+          (listening B) (firstOf xs) (restOf xs)
+          (record { hearing = examples .settings; attends = attends-of B (listening B) (firstOf xs ++ restOf xs) (k .attends) })
+          (k .first-bits) (k .rest-bits),
+    )
+
+amid-unheard : endsTold B (after (listening B) (firstOf begun)) (restOf begun) ≤ 0
+amid-unheard = unheard begun (examples .amid)
+
+early-unheard : endsTold B (after (listening B) (firstOf early)) (restOf early) ≤ 0
+early-unheard = unheard early (examples .in-flag)
+
+long-unheard : endsTold B (after (listening B) (firstOf long)) (restOf long) ≤ 0
+long-unheard = unheard long (examples .overflows)
+
+next-sent : lineOf A (after (cutChip begun) (anew A)) next ≡ replicate 8 true ++ frame (7 ∷ [])
+unfolding flags
+next-sent =
+    rw (examples .next-loaded, examples .next-passed) at
+    (after-abort A begin 3 begun next sendAbort (cuts begun (examples .amid)) (examples .pointer)
+    (host-of A (after (cutChip begun) (anew A)) next (examples .next-hosted)) .whole (examples .next-closed))

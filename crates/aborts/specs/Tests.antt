@@ -1,13 +1,18 @@
--- A host that ticks and writes as it likes leaves an abort to run. Assumes nothing.
-use mathlib.Core.Path.{ap}
-use mathlib.Core.List.{List}
+-- A host that ticks and writes as it likes leaves an abort to run; and a test that a reader can run on a receiver's
+-- story. Assumes nothing.
+use mathlib.Core.Path.{_≡_, refl, ap}
+use mathlib.Core.Bool.{Bool, true, _&&_}
+use mathlib.Core.List.{List, [], _∷_}
 use Rattle.chip.specs.declared.Chip.{Chip}
 use Rattle.chip.specs.Event.{Event}
-use Rattle.stories.specs.Story.{Which}
+use Rattle.common.specs.Tools.{both-left, both-right}
+use Rattle.stories.specs.Story.{Which, happens}
 use Rattle.stories.specs.Sent.{ticksBy}
+use Rattle.stories.specs.Received.{Role, Hears, Reads, Else, role}
 use Rattle.history.specs.Sending.Side.{SenderSide}
 use Rattle.timely.specs.Free.{Free}
-use Rattle.aborts.specs.Statement.{LeftToRun}
+use Rattle.history.specs.Receiving.Quiet.{quiet, quiet-keeps}
+use Rattle.aborts.specs.Statement.{LeftToRun, Attends}
 use Rattle.history.specs.Sending.Events.{write-side, write-no-tick}
 use Rattle.timely.specs.Free as hosts
 use Rattle.aborts.specs.Statement as stated
@@ -23,3 +28,28 @@ free-runs w (hosts.writes {c = c} {v = v} f) =
     stated.kept (write-no-tick w v)
     (ap (λ (s : SenderSide). s .sender .unit) k, ap (λ (s : SenderSide). s .sender .insertion .owed) k, ap (λ (s : SenderSide). s .heeds) k) (free-runs w f)
 free-runs w (hosts.ticking f) = stated.ticking (free-runs w f)
+
+-- a receiver that hears and is read as it comes
+abbrev pub heeds : Which → Chip → Event → Role → Bool
+heeds u r e (Hears b) = true
+heeds u r e Reads = true
+heeds u r e Else = quiet u r e
+
+unfoldable pub attending : Which → Chip → List Event → Bool
+attending u r [] = true
+attending u r (e ∷ st) = heeds u r e (role u e) && attending u (happens r e .chip) st
+
+one-more : (u : Which) (r : Chip) (e : Event) (st : List Event) (x : Role) → role u e ≡ x → heeds u r e x ≡ true
+    → Attends u (happens r e .chip) st → Attends u r (e ∷ st)
+one-more u r e st (Hears b) q a h = stated.hears q h
+one-more u r e st Reads q a h = stated.reads q h
+one-more u r e st Else q a h = stated.still q (quiet-keeps u r e a) h
+
+pub attends-of : (u : Which) (r : Chip) (st : List Event) → attending u r st ≡ true → Attends u r st
+unfolding attending
+attends-of u r [] t = stated.over
+attends-of u r (e ∷ st) t =
+    let x = role u e in
+    let d = happens r e .chip in
+    one-more u r e st x refl (both-left (heeds u r e x) (attending u d st) t)
+    (attends-of u d st (both-right (heeds u r e x) (attending u d st) t))

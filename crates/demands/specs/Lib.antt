@@ -1,2 +1,3 @@
 pub mod Together
+pub mod Results
 pub mod Example

@@ -52,6 +52,11 @@ abbrev pub countedNumber : Counted → ℕ
 countedNumber (counted.Zeros z) = 0
 countedNumber (counted.Refused k) = numberOf k
 
+-- the zeros inserted
+abbrev pub countedZeros : Counted → ℕ
+countedZeros (counted.Zeros z) = z
+countedZeros (counted.Refused k) = 0
+
 pub line-refused : (note buffer : List ℕ) (at : ℕ) → countedNumber (writeOf note buffer at) ≡ firstRow (lengthBad (length note) ∷ roomShort note buffer at ∷ [])
 unfolding writeOf
 line-refused note buffer at =
@@ -91,6 +96,12 @@ abbrev pub headNumber : Head → ℕ
 headNumber End = 0
 headNumber (Note k) = 0
 headNumber (Bad k) = numberOf k
+
+-- the note's bytes
+abbrev pub headBytes : Head → ℕ
+headBytes End = 0
+headBytes (Note k) = k
+headBytes (Bad k) = 0
 
 pub note-refused : (list : List ℕ) (i : ℕ)
     → headNumber (headOf list i) ≡ (if leb (length list) i then 0 else firstRow (lengthCut list i ∷ lengthBad (lengthAt list i) ∷ noteCut list i ∷ []))

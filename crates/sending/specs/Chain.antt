@@ -37,7 +37,7 @@ use Rattle.channel.specs.declared.Side.the-variants as channels
 
 -- what the two writes leave
 
-record Left (c d : Channel) (f : Sender → Sender) : Type 0 where
+pub record Left (c d : Channel) (f : Sender → Sender) : Type 0 where
   pub sender : d .sender ≡ f (c .sender)
   pub settings : sendingIn d ≡ sendingIn c
   pub pointer : d .pointer ≡ 0
@@ -45,7 +45,7 @@ record Left (c d : Channel) (f : Sender → Sender) : Type 0 where
 at-zero : (c : Channel) → c .pointer ≡ 0 → eqb (c .pointer) 0 ≡ true
 at-zero c p = ap (λ (n : ℕ). eqb n 0) p
 
-mode-in : (c : Channel) → Good (sendingIn c) → modeIn (c .registers) ≡ Sdlc
+pub mode-in : (c : Channel) → Good (sendingIn c) → modeIn (c .registers) ≡ Sdlc
 unfolding sendingOf
 mode-in c h = h .sdlc-mode
 
@@ -57,12 +57,12 @@ clear-left : (c : Channel) (s : Side) → c .pointer ≡ 0 → Left c (controlWr
 unfolding controlWritten writeWr0 commandStep presetStep commanded preset settled
 clear-left c s p = rw (at-zero c p) (record { sender = refl; settings = refl; pointer = refl })
 
-write-preset : (w : Which) (c : Chip) → chan w c .pointer ≡ 0 → Left (chan w c) (chan w (happens c (ControlWrite (number w) 0b10000000) .chip)) (checkPreset (modeIn (chan w c .registers)))
+pub write-preset : (w : Which) (c : Chip) → chan w c .pointer ≡ 0 → Left (chan w c) (chan w (happens c (ControlWrite (number w) 0b10000000) .chip)) (checkPreset (modeIn (chan w c .registers)))
 unfolding controlWrite controlWriteA
 write-preset A c p = rw (at-zero (c .a) p) (preset-left (c .a) channels.A p)
 write-preset B c p = preset-left (c .b) channels.B p
 
-write-clear : (w : Which) (c : Chip) → chan w c .pointer ≡ 0 → Left (chan w c) (chan w (happens c (ControlWrite (number w) 0b11000000) .chip)) latchCleared
+pub write-clear : (w : Which) (c : Chip) → chan w c .pointer ≡ 0 → Left (chan w c) (chan w (happens c (ControlWrite (number w) 0b11000000) .chip)) latchCleared
 unfolding controlWrite controlWriteA
 write-clear A c p = rw (at-zero (c .a) p) (clear-left (c .a) channels.A p)
 write-clear B c p = clear-left (c .b) channels.B p

@@ -27,7 +27,7 @@ use Rattle.sending.specs.Statement.{Closing, anew, RunsDry, Underrun, st
 use Rattle.sending.specs.Statement.{NotClosed}
 use Rattle.sending.specs.Frame.{frame-begun}
 use Rattle.sending.specs.Chain.{starts-anew, frame-ends}
-use Rattle.sending.specs.Underrun.{underrun, fed-late, underrun-seen, no-incident}
+use Rattle.sending.specs.Underrun.{underrun, late-sent, underrun-seen}
 use Rattle.sending.specs.Underrun.{reset-shows, never-unseen}
 use Rattle.sending.specs.Unclosed.{frame-seen}
 use Rattle.timely.specs.Tests.{timely, in-time, freely, free-of}
@@ -125,34 +125,16 @@ begun-sent =
 dry-underrun : Underrun A choosing
 dry-underrun = underrun A choosing (examples .at-wr0 .0) (examples .runs-dry)
 
-late-sent : flagHead 3 ++ lineOf A begin whole ≡ frame (0 ∷ [])
+late-frame : flagHead 3 ++ lineOf A begin whole ≡ frame (0 ∷ [])
 unfolding ticks times stuff zeros textBits lowBits checkOver checkStep checkBits topBits
-late-sent =
-    fed-late A begin 3 0 [] dry late starts (in-time A begin 2 (0 ∷ []) dry (examples .dry-timely)) (examples .runs-dry)
+late-frame =
+    late-sent A begin 3 0 [] dry late starts (in-time A begin 2 (0 ∷ []) dry (examples .dry-timely)) (examples .runs-dry)
     (free-of A (happens choosing (Transmit 0) .chip) late (examples .late-free)) refl
 
 late-seen : d6 A (after choosing (Transmit 0 ∷ late)) ≡ true
 late-seen =
     underrun-seen A choosing late (examples .runs-dry) (examples .unlatched) (free-of A (happens choosing (Transmit 0) .chip) late (examples .late-free))
     (examples .at-wr0 .1)
-
--- two bytes were meant and one went out: all of the incident but its end
-late-told : d6 A (after begin whole) ≡ false → ⊥
-late-told unseen =
-    no-incident A begin (0 ∷ 0 ∷ []) dry late (record {
-      p = 3;
-      v = 0;
-      vs = [];
-      start = starts;
-      fed = in-time A begin 2 (0 ∷ []) dry (examples .dry-timely);
-      fewer = omega arith;
-      dry = examples .runs-dry;
-      unlatched = examples .unlatched;
-      late = free-of A (happens choosing (Transmit 0) .chip) late (examples .late-free);
-      closed = told .late-line;
-      looks = examples .late-wr0;
-      unseen = unseen;
-    })
 
 held-shown : d6 A (happens held (ControlWrite 0 resetStatus) .chip) ≡ true
 held-shown = reset-shows A held (examples .held-set .0) (examples .held-set .1)

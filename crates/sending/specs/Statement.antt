@@ -3,7 +3,7 @@
 use mathlib.Core.Path.{_≡_}
 use mathlib.Core.Bool.{Bool, true, false}
 use mathlib.Core.List.{List, [], _∷_, _++_}
-use Prim.Native.Nat.{ℕ, _+_, _-_, _*_, _/_, _≤_, _<_}
+use Prim.Native.Nat.{ℕ, _+_, _-_, _*_, _/_, _≤_}
 use lib.ListN.{length, take}
 use Rattle.line.specs.Frame.{frame, zerosOf}
 use Rattle.sdlc.specs.declared.LineUnit.the-variants.{Flag, Byte}
@@ -80,9 +80,11 @@ pub record Underrun (w : Which) (c : Chip) : Type 0 where
 abbrev pub UnderrunShown : Type 0
 UnderrunShown = (w : Which) (c : Chip) → chan w c .pointer ≡ 0 → RunsDry w c → Underrun w c
 
--- "the frame holds just the bytes loaded so far": the line runs dry behind the story xs, and the host does as it likes from there on
-abbrev pub FedLate : Type 0
-FedLate = (w : Which) (c : Chip) (p v : ℕ) (vs : List ℕ) (xs ys : List Event) → Start w c p → InTime w [] c (p - 1) (v ∷ vs) xs → RunsDry w (after c xs)
+-- a host that was in time so far and is so no more: the line runs dry behind the story xs, and it does as it likes
+-- from there on. Of every host: `fed-late` in hosts
+abbrev pub LateInTime : Type 0
+LateInTime = (w : Which) (c : Chip) (p v : ℕ) (vs : List ℕ) (xs ys : List Event) → Start w c p
+    → InTime w [] c (p - 1) (v ∷ vs) xs → RunsDry w (after c xs)
     → Free w (happens (after c xs) (Transmit (number w)) .chip) ys
     → p + ticks w (xs ++ (Transmit (number w) ∷ ys)) ≡ 8 * (length (v ∷ vs) + 2) + 16 + zerosOf (v ∷ vs)
     → flagHead p ++ lineOf w c (xs ++ (Transmit (number w) ∷ ys)) ≡ frame (v ∷ vs)
@@ -91,26 +93,6 @@ FedLate = (w : Which) (c : Chip) (p v : ℕ) (vs : List ℕ) (xs ys : List Event
 abbrev pub UnderrunSeen : Type 0
 UnderrunSeen = (w : Which) (c : Chip) (ys : List Event) → RunsDry w c → statusLatched w c ≡ false → Free w (happens c (Transmit (number w)) .chip) ys
     → let d = after c (Transmit (number w) ∷ ys) in chan w d .pointer ≡ 0 → d6 w d ≡ true
-
--- "One morning the planner fed the software chip late. The line ran dry .., the frame closed with a good check, and the underrun bit on which the
--- planner aborts never came up": of the bytes meant only the first went out, and a host whose status was not latched reads D6 as 0 behind the
--- frame. There is no such story
-pub record Incident (w : Which) (c : Chip) (meant : List ℕ) (xs ys : List Event) : Type 0 where
-  pub p : ℕ
-  pub v : ℕ
-  pub vs : List ℕ
-  pub start : Start w c p
-  pub fed : InTime w [] c (p - 1) (v ∷ vs) xs
-  pub fewer : length (v ∷ vs) < length meant
-  pub dry : RunsDry w (after c xs)
-  pub unlatched : statusLatched w (after c xs) ≡ false
-  pub late : Free w (happens (after c xs) (Transmit (number w)) .chip) ys
-  pub closed : flagHead p ++ lineOf w c (xs ++ (Transmit (number w) ∷ ys)) ≡ frame (v ∷ vs)
-  pub looks : chan w (after c (xs ++ (Transmit (number w) ∷ ys))) .pointer ≡ 0
-  pub unseen : d6 w (after c (xs ++ (Transmit (number w) ∷ ys))) ≡ false
-
-abbrev pub NoIncident : Type 0
-NoIncident = (w : Which) (c : Chip) (meant : List ℕ) (xs ys : List Event) → Incident w c meant xs ys → ⊥
 
 -- a host whose status was latched reads D6 as 1 behind its next Reset External/Status
 abbrev pub ResetShows : Type 0

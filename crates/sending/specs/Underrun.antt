@@ -19,14 +19,14 @@ use Rattle.chip.specs.Chip.{transmitCall}
 use Rattle.chip.specs.Event.{Event, ControlWrite, DataWrite, Transmit}
 use Rattle.whole.specs.Come.{opens}
 use Rattle.whole.specs.Laws.Latch.{dry-sets, tick-set, Went, opened, latched, tick-went}
-use Rattle.stories.specs.Story.{Which, A, B, number, chan, happens, after, after-join}
+use Rattle.stories.specs.Story.{Which, A, B, number, chan, happens, after}
 use Rattle.stories.specs.Sent.{d6, resetStatus}
 use Rattle.history.specs.Sending.Side.{Heeded, good, good-heeded, SenderSide, sendingIn, sideOf}
 use Rattle.history.specs.Sending.Side.{latchOf}
 use Rattle.timely.specs.InTime.{InTime, over, still, writes, next-frame, ticking}
 use Rattle.timely.specs.Free.{Free}
-use Rattle.sending.specs.Statement.{RunsDry, statusLatched, UnderrunShown, FedLate}
-use Rattle.sending.specs.Statement.{UnderrunSeen, NoIncident, ResetShows, Watched, NotClosed}
+use Rattle.sending.specs.Statement.{RunsDry, statusLatched, UnderrunShown, LateInTime}
+use Rattle.sending.specs.Statement.{UnderrunSeen, ResetShows, Watched, NotClosed}
 use Rattle.sending.specs.Statement.{NeverUnseen}
 use Rattle.history.specs.Sending.Events.{tickedOf, tick-side, write-side}
 use Rattle.sending.specs.Frame.{demand3}
@@ -101,7 +101,7 @@ tick-latch w c e l =
 pub write-latch : (w : Which) (c : Chip) (v : ℕ) → latchOf w (happens c (DataWrite (number w) v) .chip) ≡ latchOf w c
 write-latch w c v = ap (λ (x : SenderSide). x .sender .shared .latch) (write-side w c v)
 
--- Fed late: with the latch set, whatever the host does is in time, and is another frame's
+-- Late: with the latch set, whatever the host does is in time, and is another frame's
 
 pub free-in-time : (w : Which) {c : Chip} {st : List Event} → Free w c st → heedsOf w c ≡ good → latchOf w c ≡ true → (n : ℕ) → InTime w [] c n [] st
 free-in-time w hosts.ended e l n = over
@@ -129,8 +129,8 @@ pub late-in-time : (w : Which) (c : Chip) (p v : ℕ) (vs : List ℕ) (xs ys : L
 late-in-time w c p v vs xs ys i d f =
     in-time-join w (Transmit (number w) ∷ ys) i (λ m. ticking refl (free-in-time w f (dry-tick-heeds w (after c xs) d) (dry-latch w (after c xs) d) _))
 
-pub fed-late : FedLate
-fed-late w c p v vs xs ys s i d f n = demand3 w c p v vs (xs ++ (Transmit (number w) ∷ ys)) s (late-in-time w c p v vs xs ys i d f) n
+pub late-sent : LateInTime
+late-sent w c p v vs xs ys s i d f n = demand3 w c p v vs (xs ++ (Transmit (number w) ∷ ys)) s (late-in-time w c p v vs xs ys i d f) n
 
 -- Seen: from the choosing tick on
 
@@ -153,12 +153,6 @@ underrun-seen w c ys d n f p =
     let e = happens c (Transmit (number w)) .chip in
     let k = free-seen w f (dry-tick-heeds w c d) l (tick-shown w c (unlatched-shows (chan w c .status) n) l) in
     shows-read w (after e ys) p (k .0) (k .1)
-
-pub no-incident : NoIncident
-no-incident w c meant xs ys i =
-    let j = after-join c xs (Transmit (number w) ∷ ys) in
-    let seen = underrun-seen w (after c xs) ys (i .dry) (i .unlatched) (i .late) (ap (λ (d : Chip). chan w d .pointer) (sym j) ∙ i .looks) in
-    void (sym (i .unseen) ∙ ap (d6 w) j ∙ seen)
 
 -- status that was latched shows the latch with the next Reset External/Status
 pub reset-shows : ResetShows

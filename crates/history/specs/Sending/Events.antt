@@ -3,7 +3,7 @@
 use mathlib.Core.Path.{_≡_, refl, sym, ap, _∙_}
 use mathlib.Core.Bool.{Bool, true, false}
 use mathlib.Core.List.{List, [], _∷_, _++_, append-assoc}
-use Prim.Native.Nat.{ℕ}
+use Prim.Native.Nat.{ℕ, suc}
 use native.Mathlib.Omega.{arith}
 use lib.ListN.{length, length-append}
 use Rattle.line.specs.Bits.{oneIf}
@@ -37,10 +37,10 @@ tick-frames w c e =
     tick-sdlc g s (ap (λ (h : Heeded). h .mode) e)
     ∙ ap (λ (h : Heeded). withBreak (h .broken) (byFramer s (tickSdlc (h .framing) (framerOf s)))) e
 
-abbrev ticksTo : Which → Chip → Ticked → SenderSide
+abbrev pub ticksTo : Which → Chip → Ticked → SenderSide
 ticksTo w c t = side (framerOf (t .sender)) (sideOf w c .heeds)
 
-ticks-to : (w : Which) (c : Chip) → let g = sendingIn (chan w c) in
+pub ticks-to : (w : Which) (c : Chip) → let g = sendingIn (chan w c) in
     sideOf w (happens c (Transmit (number w)) .chip) ≡ ticksTo w c (tick g (chan w c .sender))
 unfolding transmitCall transmitTick settled
 ticks-to A c = refl
@@ -55,7 +55,7 @@ level-bit : (b : Bool) → onLevel (oneIf b) ≡ b
 level-bit true = refl
 level-bit false = refl
 
-tick-gives : (w : Which) (c : Chip)
+pub tick-gives : (w : Which) (c : Chip)
     → lineBit (isTick w (Transmit (number w))) (happens c (Transmit (number w)) .answer)
     ≡ tick (sendingIn (chan w c)) (chan w c .sender) .bit ∷ []
 unfolding transmitCall transmitTick
@@ -72,6 +72,10 @@ tick-bit w c e = tick-gives w c ∙ ap (λ (t : Ticked). t .bit ∷ []) (tick-fr
 pub tick-counts : (w : Which) → isTick w (Transmit (number w)) ≡ true
 tick-counts A = refl
 tick-counts B = refl
+
+pub tick-more : (w : Which) (st : List Event) → ticks w (Transmit (number w) ∷ st) ≡ suc (ticks w st)
+unfolding ticks
+tick-more w st = rw (tick-counts w) (omega arith)
 
 pub write-side : (w : Which) (c : Chip) (v : ℕ)
     → sideOf w (happens c (DataWrite (number w) v) .chip)

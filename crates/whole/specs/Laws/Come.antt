@@ -26,14 +26,14 @@ use Rattle.whole.specs.Stage.{sinceAfter, inTime, Stage, opening, inByte
 -- Bits
 
 -- a content bit is sent, then the zero that it owes
-stuffed : (r : ℕ) (b : Bool) (bs tail : List Bool)
+pub stuffed : (r : ℕ) (b : Bool) (bs tail : List Bool)
     → stuff r (b ∷ bs) ++ tail ≡ b ∷ (zeroIf (owes r b) ++ (stuff (runAfter r b) bs ++ tail))
 unfolding stuff
 stuffed r b bs tail =
     ap (λ (l : List Bool). b ∷ l) (append-assoc (zeroIf (owes r b)) (stuff (runAfter r b) bs) tail)
 
 -- the first bit of the byte that waits; the byte enters the check
-load : (r c b : ℕ) (rest : List ℕ)
+pub load : (r c b : ℕ) (rest : List ℕ)
     → let r₁ = runAfter r (odd b) in
     let c₁ = checkOver sdlc c (lowBits 8 b) in
     closed r c [] (b ∷ rest) ≡ odd b ∷ (zeroIf (owes r (odd b)) ++ closed r₁ c₁ (lowBits 7 (b / 2)) rest)
@@ -46,7 +46,7 @@ load r c b rest =
     ∙ unfold lowBits in (stuffed r (odd b) (lowBits 7 (b / 2) ++ (textBits 8 rest ++ k)) flagBits)
 
 -- the next bit of the byte under way
-byte-on : (r c k v : ℕ) (vs : List ℕ)
+pub byte-on : (r c k v : ℕ) (vs : List ℕ)
     → let r₁ = runAfter r (odd v) in
     closed r c (lowBits (suc k) v) vs ≡ odd v ∷ (zeroIf (owes r (odd v)) ++ closed r₁ c (lowBits k (v / 2)) vs)
 unfolding closed lowBits
@@ -55,7 +55,7 @@ byte-on r c k v vs =
     stuffed r (odd v) (lowBits k (v / 2) ++ (textBits 8 vs ++ check)) flagBits
 
 -- the first bit of the check
-check-starts : (r c : ℕ)
+pub check-starts : (r c : ℕ)
     → let x = complement c in
     let r₁ = runAfter r (top x) in
     closed r c [] [] ≡ top x ∷ (zeroIf (owes r (top x)) ++ (stuff r₁ (topBits 15 (shifted x)) ++ flagBits))
@@ -68,7 +68,7 @@ since-same : (f : Bool) (n : ℕ) → sinceAfter f f n ≡ n + 1
 since-same true n = refl
 since-same false n = refl
 
-too-late : (n : ℕ) → ltb (n + 1) 8 ≡ true → 7 ≤ n → ⊥
+pub too-late : (n : ℕ) → ltb (n + 1) 8 ≡ true → 7 ≤ n → ⊥
 too-late n e h = omega (arith, ltb-true (n + 1) 8 e)
 
 -- A tick in time takes the first bit of what is to come

@@ -1,0 +1,7 @@
+pub mod Check
+pub mod Heard
+pub mod Characters
+pub mod Register
+pub mod Come
+pub mod Laws
+pub mod Example

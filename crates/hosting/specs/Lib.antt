@@ -1,0 +1,2 @@
+pub mod Happens
+pub mod Hosts

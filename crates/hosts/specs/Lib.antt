@@ -1,0 +1,8 @@
+pub mod Loaded
+pub mod Steps
+pub mod Statement
+pub mod Line
+pub mod Punctual
+pub mod Late
+pub mod Tests
+pub mod Example

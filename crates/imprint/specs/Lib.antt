@@ -1,0 +1,2 @@
+pub mod Imprint
+pub mod Laws

@@ -1,0 +1,17 @@
+-- A note's content as it is put down a byte at a time over a buffer, by tables that are lent, whatever
+-- they hold. Assumes nothing.
+use mathlib.Core.List.{List, [], _∷_}
+use Prim.Native.Nat.{ℕ}
+use Rattle.line.specs.Check.{ones}
+use Rattle.lookup.specs.Lookup.{withLookup}
+use Rattle.bytewise.specs.Bytewise.{Plate, plate, pressAt, byteStamped}
+
+-- bytes put down one after another
+unfoldable pub bytesStamped : List ℕ → List ℕ → Plate → List ℕ → Plate
+bytesStamped stamps fours s [] = s
+bytesStamped stamps fours s (v ∷ vs) = bytesStamped stamps fours (byteStamped stamps fours s v) vs
+
+-- behind the eight cells of a flag the note and its check
+unfoldable pub contentStamped : List ℕ → List ℕ → List ℕ → List ℕ → List ℕ → Plate
+contentStamped checks stamps fours buffer note =
+    bytesStamped stamps fours (plate buffer (pressAt 8 0)) (withLookup checks ones note)

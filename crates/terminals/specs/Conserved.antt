@@ -1,0 +1,163 @@
+-- Conservation, for any ticks: what was read, then what waits, is what waited before, then what was
+-- handed over. Assumes nothing.
+use mathlib.Core.Path.{_≡_, refl, sym, ap, ap₂, _∙_, subst}
+use mathlib.Core.Bool.{Bool, true, false, not, _&&_, _||_}
+use mathlib.Core.List.{List, [], _∷_, _++_, append-assoc, append-nil}
+use Prim.Native.Nat.{ℕ}
+use lib.Dec.{ltb}
+use Rattle.common.specs.Choice.{if_then_else_}
+use Rattle.entry.specs.declared.Entry.{Entry}
+use Rattle.queue.specs.declared.Queue.{Queue}
+use Rattle.queue.specs.Queue.{room, pushed, taken, oldest, waits}
+use Rattle.queue.specs.Laws.{push-holds, read-holds}
+use Rattle.queue.specs.Holding.{Plain, Holds, entryIf}
+use Rattle.bytesync.specs.declared.Reception.{Reception}
+use Rattle.bytesync.specs.declared.Matched.{Matched}
+use Rattle.bytesync.specs.Hearing.{hearBlock}
+use Rattle.bytesync.specs.Laws.Plain.{hear-plain}
+use Rattle.blocks.specs.Heard.{Moment, heeding, Final, final, handed, before, hearAll}
+use Rattle.chip.specs.declared.Chip.{Chip}
+use Rattle.chip.specs.Event.{Event}
+use Rattle.stories.specs.Story.{Which, chan, happens, after}
+use Rattle.stories.specs.Received.{Role, Hears, Reads, Else, role, isRead, taking, tookOf}
+use Rattle.terminals.specs.Side.{Heeded, Side, side, sideOf, checkingOf, momentIn}
+use Rattle.terminals.specs.Side.{momentsOf}
+use Rattle.terminals.specs.Events.{queuedBy, heardBy, heardSide, readSide, Follows}
+use Rattle.terminals.specs.Events.{Hearing, follows}
+
+-- "stays on .. read before a fourth character waits and else untouched but for WR3 D3": a tick that
+-- hands a character over finds room, reads come as they like, and what else happens leaves the side
+-- as it was
+
+abbrev pub roomFor : Queue → Matched → Bool
+roomFor q h = not (h .some) || ltb (q .count) room
+
+abbrev pub roomy : Side → Bool → Bool → Bool
+roomy x i b = roomFor (x .queue) (heardBy i b x)
+
+pub data Fed (w : Which) : Chip → List Event → Type 0 where
+  over : {c : Chip} → Fed w c []
+  hears : {c : Chip} {e : Event} {st : List Event} {b : Bool} → role w e ≡ Hears b
+      → roomy (sideOf w c) (checkingOf w c) b ≡ true → Fed w (happens c e .chip) st
+      → Fed w c (e ∷ st)
+  reads : {c : Chip} {e : Event} {st : List Event} → role w e ≡ Reads
+      → Fed w (happens c e .chip) st → Fed w c (e ∷ st)
+  still : {c : Chip} {e : Event} {st : List Event} → role w e ≡ Else
+      → sideOf w (happens c e .chip) ≡ sideOf w c → Fed w (happens c e .chip) st
+      → Fed w c (e ∷ st)
+
+before-join : (xs ys : List Entry) (f : Final) → before xs (before ys f) ≡ before (xs ++ ys) f
+before-join xs ys f =
+    ap (final (f .reception) (f .check)) (sym (append-assoc xs ys (f .got)))
+
+-- the queue takes what a tick hands over
+queue-takes : {p o : Bool} {q : Queue} {es : List Entry} (h : Matched) → Holds p o q es
+    → roomFor q h ≡ true → Plain (h .entry) → Holds p o (queuedBy q h) (es ++ handed h)
+queue-takes {p} {o} {q} {es} h k r e = go (h .some) r
+  where
+    go : (t : Bool) → not t || ltb (q .count) room ≡ true
+        → Holds p o (if t then pushed q (h .entry) else q) (es ++ entryIf t (h .entry))
+    go true r = push-holds k r e
+    go false r = rw (append-nil es) k
+
+-- at the end of a story: the side, and, whatever ticks follow, the whole of what is handed over
+pub record Conserved (w : Which) (c : Chip) (st : List Event) (r : Reception) (k : ℕ) (h : Heeded)
+    (es : List Entry) (p o : Bool) : Type 0 where
+  pub last : Reception
+  pub check : ℕ
+  pub queue : Queue
+  pub waiting : List Entry
+  pub there : sideOf w (after c st) ≡ side last check queue h
+  pub holds : Holds p o queue waiting
+  pub whole : (rest : List Moment)
+      → before es (hearAll (h .matching) r k (momentsOf w c st ++ rest))
+      ≡ before (tookOf w c st ++ waiting) (hearAll (h .matching) last check rest)
+
+pub conserved : (w : Which) {c : Chip} {st : List Event} {p o : Bool} → Fed w c st
+    → (r : Reception) (k : ℕ) (q : Queue) (h : Heeded) (es : List Entry) → Hearing h
+    → sideOf w c ≡ side r k q h → Holds p o q es → Conserved w c st r k h es p o
+unfolding after momentsOf tookOf hearAll
+conserved w over r k q h es d e m =
+    record {
+      last = r;
+      check = k;
+      queue = q;
+      waiting = es;
+      there = e;
+      holds = m;
+      whole = λ rest. refl;
+    }
+conserved w (still {c = c} {e = x} {st = st} z s i) r k q h es d e m =
+    let n = conserved w i r k q h es d (s ∙ e) m in
+    let g = h .matching in
+    record {
+      last = n .last;
+      check = n .check;
+      queue = n .queue;
+      waiting = n .waiting;
+      there = n .there;
+      holds = n .holds;
+      whole = λ rest.
+          ap (λ (y : Role). before es (hearAll g r k
+          ((momentIn (checkingOf w c) y ++ momentsOf w (happens c x .chip) st) ++ rest))) z
+          ∙ n .whole rest
+          ∙ ap (λ (y : Role). before
+          ((entryIf (taking w c y) (oldest (chan w c .queue)) ++ tookOf w (happens c x .chip) st)
+          ++ n .waiting) (hearAll g (n .last) (n .check) rest)) (sym z);
+    }
+conserved w (reads {c = c} {e = x} {st = st} z i) r k q h es d e m =
+    let t = read-holds m in
+    let g = h .matching in
+    let f : sideOf w (happens c x .chip) ≡ readSide (sideOf w c) =
+    subst (Follows w c (happens c x .chip)) z
+    (follows w c x (subst Hearing (sym (ap (λ (y : Side). y .heeds) e)) d)) in
+    let n = conserved w i r k (taken q) h (t .rest) d (f ∙ ap readSide e) (t .holds) in
+    let took = entryIf (waits q) (oldest q) in
+    let more = tookOf w (happens c x .chip) st in
+    let ts = momentsOf w (happens c x .chip) st in
+    record {
+      last = n .last;
+      check = n .check;
+      queue = n .queue;
+      waiting = n .waiting;
+      there = n .there;
+      holds = n .holds;
+      whole = λ rest.
+          ap (λ (y : Role).
+          before es (hearAll g r k ((momentIn (checkingOf w c) y ++ ts) ++ rest))) z
+          ∙ ap (λ (l : List Entry). before l (hearAll g r k (ts ++ rest))) (t .split)
+          ∙ sym (before-join took (t .rest) (hearAll g r k (ts ++ rest)))
+          ∙ ap (before took) (n .whole rest)
+          ∙ before-join took (more ++ n .waiting) (hearAll g (n .last) (n .check) rest)
+          ∙ ap (λ (l : List Entry). before l (hearAll g (n .last) (n .check) rest))
+          (sym (append-assoc took more (n .waiting)))
+          ∙ ap₂ (λ (y : Role) (u : Side). before
+          ((entryIf (isRead y && waits (u .queue)) (oldest (u .queue)) ++ more) ++ n .waiting)
+          (hearAll g (n .last) (n .check) rest)) (sym z) (sym e);
+    }
+conserved w (hears {c = c} {e = x} {st = st} {b = b} z s i) r k q h es d e m =
+    let g = h .matching in
+    let j = checkingOf w c in
+    let u = hearBlock (heeding g j) r k b in
+    let f : sideOf w (happens c x .chip) ≡ heardSide j b (sideOf w c) =
+    subst (Follows w c (happens c x .chip)) z
+    (follows w c x (subst Hearing (sym (ap (λ (y : Side). y .heeds) e)) d)) in
+    let space : roomFor q u ≡ true = ap (λ (y : Side). roomy y j b) (sym e) ∙ s in
+    let n = conserved w i (u .reception) (u .check) (queuedBy q u) h (es ++ handed u) d
+    (f ∙ ap (heardSide j b) e) (queue-takes u m space (hear-plain (heeding g j) r k b)) in
+    let ts = momentsOf w (happens c x .chip) st in
+    record {
+      last = n .last;
+      check = n .check;
+      queue = n .queue;
+      waiting = n .waiting;
+      there = n .there;
+      holds = n .holds;
+      whole = λ rest.
+          ap (λ (y : Role). before es (hearAll g r k ((momentIn j y ++ ts) ++ rest))) z
+          ∙ before-join es (handed u) (hearAll g (u .reception) (u .check) (ts ++ rest))
+          ∙ n .whole rest
+          ∙ ap (λ (y : Role). before
+          ((entryIf (taking w c y) (oldest (chan w c .queue)) ++ tookOf w (happens c x .chip) st)
+          ++ n .waiting) (hearAll g (n .last) (n .check) rest)) (sym z);
+    }

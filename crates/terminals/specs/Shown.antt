@@ -1,0 +1,144 @@
+-- What RR0 and RR1 show of the receiver in Monosync and Bisync: D6 of RR1 is the check's, at all
+-- times, and D4 of RR0 is hunt. Assumes nothing.
+use mathlib.Core.Path.{_≡_, ap, _∙_}
+use mathlib.Core.Bool.{Bool, true, false}
+use Prim.Native.Nat.{ℕ, _+_, _/_, _%_, _≤_}
+use native.Mathlib.Omega.{arith}
+use lib.Dec.{eqb}
+use Rattle.common.specs.Bit.{placed}
+use Rattle.common.specs.Choice.{if_then_else_}
+use Rattle.common.specs.Mode.{inBlocks}
+use Rattle.line.specs.Bits.{odd}
+use Rattle.queue.specs.declared.Queue.{Queue}
+use Rattle.queue.specs.Queue.{waits, oldest, rr1, rr1Told}
+use Rattle.bytesync.specs.Hearing.{wrong}
+use Rattle.sender.specs.Sender.{allSent, bufferReady}
+use Rattle.settings.specs.Settings.{sendingOf, receivingOf}
+use Rattle.status.specs.Status.{shownBits}
+use Rattle.channel.specs.declared.Channel.{Channel}
+use Rattle.channel.specs.Channel.{liveOf}
+use Rattle.channel.specs.Control.{rr0, rr1Now, readRegister}
+use Rattle.chip.specs.declared.Chip.{Chip}
+use Rattle.chip.specs.Interrupts.{anyPending, rr2}
+use Rattle.chip.specs.Chip.{controlReadCall}
+use Rattle.stories.specs.Story.{Which, A, B, chan}
+use Rattle.terminals.specs.Side.{sideIn, sideOf}
+use Rattle.terminals.specs.Statement.{rr1D6, d4}
+
+placed-le : (b : Bool) (w : ℕ) → placed b w ≤ w
+placed-le true w = omega arith
+placed-le false w = omega arith
+
+-- RR1 D6
+
+d6-of : (low : ℕ) (error ends : Bool) → low ≤ 63
+    → odd ((low + placed error 64 + placed ends 128) / 64) ≡ error
+d6-of low true true h = let e : (low + 64 + 128) / 64 % 2 ≡ 1 = omega arith in rw e
+d6-of low true false h = let e : (low + 64 + 0) / 64 % 2 ≡ 1 = omega arith in rw e
+d6-of low false true h = let e : (low + 0 + 128) / 64 % 2 ≡ 0 = omega arith in rw e
+d6-of low false false h = let e : (low + 0 + 0) / 64 % 2 ≡ 0 = omega arith in rw e
+
+told-d6 : (q : Queue) (sent error : Bool) → odd (rr1Told q sent error / 64) ≡ error
+unfolding rr1Told
+told-d6 q sent error =
+    let e = oldest q in
+    d6-of (placed sent 0b1 + placed (e .ends) 0b110 + placed (q .parity) 0b10000
+    + placed (q .overrun) 0b100000) error (e .ends)
+    (omega (
+      arith,
+      placed-le sent 0b1,
+      placed-le (e .ends) 0b110,
+      placed-le (q .parity) 0b10000,
+      placed-le (q .overrun) 0b100000,
+    ))
+
+rr1-d6 : (c : Channel) → inBlocks (sideIn c .heeds .mode) ≡ true
+    → odd (rr1Now c / 64) ≡ wrong (c .receiver .check)
+unfolding rr1Now receivingOf
+rr1-d6 c m =
+    let sent = allSent (sendingOf (c .registers) (c .lines)) (c .sender) in
+    ap (λ (b : Bool).
+    odd ((if b then rr1Told (c .queue) sent (wrong (c .receiver .check))
+    else rr1 (c .queue) sent) / 64))
+    m ∙ told-d6 (c .queue) sent (wrong (c .receiver .check))
+
+read-rr1 : (c : Channel) (pending : Bool) (vector : ℕ) → c .pointer ≡ 1
+    → readRegister c pending vector ≡ rr1Now c
+unfolding readRegister
+read-rr1 c pending vector p =
+    ap (λ (n : ℕ). if eqb n 0 then rr0 c pending
+    else (if eqb n 1 then rr1Now c else (if eqb n 2 then vector else 0))) p
+
+-- "RR1 D6 is then 1 exactly while that check is not zero"
+pub d6-is : (w : Which) (c : Chip) → inBlocks (sideOf w c .heeds .mode) ≡ true
+    → chan w c .pointer ≡ 1 → rr1D6 w c ≡ wrong (chan w c .receiver .check)
+unfolding controlReadCall
+d6-is A c m p =
+    ap (λ (v : ℕ). odd (v / 64)) (read-rr1 (c .a) (anyPending c) 0 p) ∙ rr1-d6 (c .a) m
+d6-is B c m p = ap (λ (v : ℕ). odd (v / 64)) (read-rr1 (c .b) false (rr2 c) p) ∙ rr1-d6 (c .b) m
+
+-- RR0 D4
+
+d4-of : (low : ℕ) (hunt cts underrun abort : Bool) → low ≤ 15
+    → odd ((low + placed hunt 16 + placed cts 32 + placed underrun 64 + placed abort 128) / 16)
+    ≡ hunt
+d4-of low true cts underrun abort h =
+    let e : (low + 16 + placed cts 32 + placed underrun 64 + placed abort 128) / 16 % 2 ≡ 1 =
+    bits cts underrun abort in
+    rw e
+  where
+    bits : (a b c : Bool) → (low + 16 + placed a 32 + placed b 64 + placed c 128) / 16 % 2 ≡ 1
+    bits true true true = omega arith
+    bits true true false = omega arith
+    bits true false true = omega arith
+    bits true false false = omega arith
+    bits false true true = omega arith
+    bits false true false = omega arith
+    bits false false true = omega arith
+    bits false false false = omega arith
+d4-of low false cts underrun abort h =
+    let e : (low + 0 + placed cts 32 + placed underrun 64 + placed abort 128) / 16 % 2 ≡ 0 =
+    bits cts underrun abort in
+    rw e
+  where
+    bits : (a b c : Bool) → (low + 0 + placed a 32 + placed b 64 + placed c 128) / 16 % 2 ≡ 0
+    bits true true true = omega arith
+    bits true true false = omega arith
+    bits true false true = omega arith
+    bits true false false = omega arith
+    bits false true true = omega arith
+    bits false true false = omega arith
+    bits false false true = omega arith
+    bits false false false = omega arith
+
+rr0-d4 : (c : Channel) (pending : Bool)
+    → odd (rr0 c pending / 16) ≡ shownBits (c .status) (liveOf c) .hunt
+unfolding rr0
+rr0-d4 c pending =
+    let s = shownBits (c .status) (liveOf c) in
+    let ready = bufferReady (sendingOf (c .registers) (c .lines)) (c .sender) in
+    d4-of (placed (waits (c .queue)) 0b1 + placed pending 0b10 + placed ready 0b100
+    + placed (s .dcd) 0b1000)
+    (s .hunt) (s .cts) (s .underrun) (s .abort)
+    (omega (
+      arith,
+      placed-le (waits (c .queue)) 0b1,
+      placed-le pending 0b10,
+      placed-le ready 0b100,
+      placed-le (s .dcd) 0b1000,
+    ))
+
+read-rr0 : (c : Channel) (pending : Bool) (vector : ℕ) → c .pointer ≡ 0
+    → readRegister c pending vector ≡ rr0 c pending
+unfolding readRegister
+read-rr0 c pending vector p =
+    ap (λ (n : ℕ). if eqb n 0 then rr0 c pending
+    else (if eqb n 1 then rr1Now c else (if eqb n 2 then vector else 0))) p
+
+pub d4-is : (w : Which) (c : Chip) → chan w c .pointer ≡ 0
+    → d4 w c ≡ shownBits (chan w c .status) (liveOf (chan w c)) .hunt
+unfolding controlReadCall
+d4-is A c p =
+    ap (λ (v : ℕ). odd (v / 16)) (read-rr0 (c .a) (anyPending c) 0 p) ∙ rr0-d4 (c .a) (anyPending c)
+d4-is B c p =
+    ap (λ (v : ℕ). odd (v / 16)) (read-rr0 (c .b) false (rr2 c) p) ∙ rr0-d4 (c .b) false
