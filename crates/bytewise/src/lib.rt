@@ -28,12 +28,16 @@ fn size(x: u16) -> usize
     x as usize
 }
 
-// The stamp of a byte in a row.
+// The stamp of a byte in a row. The byte's place is taken first, since the row is known last: it is
+// cut out of the stamp before, and then nothing stands between that look and this one.
 fn stamp_for(stamps: &[u16; 1280], row: usize, v: u8) -> u16
     ensures { λ r. ⌜ r ≡ stampFor (now (stamps .entry)) row v ⌝ }
 {
     if row <= LAST_ROW {
-        stamps[row + wide(v)]
+        let byte = wide(v);
+        let all = &stamps[..];
+        let rows = &all[byte..];
+        rows[row]
     } else {
         0
     }
