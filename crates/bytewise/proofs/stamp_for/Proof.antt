@@ -1,63 +1,19 @@
--- `bytewise::stamp_for` meets its contract: what is read at a row behind a byte's place is what
--- stands at their sum. Assumes nothing.
-use mathlib.Core.Path.{_≡_, ap, _∙_}
-use mathlib.Core.List.{List}
-use native.Mathlib.Omega.{arith}
-use Prim.Native.Nat.{ℕ, _+_, _-_, _%_, _<_}
+-- `bytewise::stamp_for` meets its contract: each return by the facts on its way. Assumes nothing.
 use borrow.Author.Needs.{needs}
-use borrow.Author.Tests.{le-leb, lt-leb}
-use denote.Ref.{now}
-use lib.ListN.{length, getD, take, drop}
-use lib.Seq.{getD-take, getD-drop}
+use borrow.Author.Tests.{lt-leb}
 use Rattle.bytewise.specs.Bytewise.{stampFor}
 use Rattle.bytewise.proofs.stamp_for.Statement.{statement}
 use Rattle.bytewise.proofs.stamp_for.Tie as tie
 
--- a part from a place on, read further on
-behind : (l : List ℕ) (byte row : ℕ) → row < length l - byte
-    → getD (take (length l - byte) (drop byte l)) row 0 ≡ getD l (row + byte) 0
-behind l byte row h =
-    getD-take (length l - byte) (drop byte l) row 0 h
-    ∙ getD-drop byte l row 0
-    ∙ ap (λ (k : ℕ). getD l k 0) (omega arith)
-
-wide-requires : tie.Need-wide-requires
-wide-requires c κs = search needs
-
-mul-rows : tie.Need-mul-rows
-mul-rows c = search needs
-
-sub-rows : tie.Need-sub-rows
-sub-rows c = search needs
-
-part-rows-start : tie.Need-part-rows-start
-part-rows-start c = search needs
-
-part-rows-end : tie.Need-part-rows-end
-part-rows-end c = search needs
-
-mul-result : tie.Need-mul-result
-mul-result c = search needs
-
-shared-slice-read-result : tie.Need-shared-slice-read-result
-shared-slice-read-result c = search needs
+stamp-in-requires : tie.Need-stamp-in-requires
+stamp-in-requires c κs = search needs
 
 returns : tie.Need-returns
-unfolding stampFor
-returns c =
-    let wide = c .before .before .before .wide in
-    let s = c .before .before .before .before .before in
-    let byte : s .args .v % 256 ≡ s .args .v = omega (arith, s .fits .v .fits) in
-    rw (le-leb (s .args .row) 1024 (c .before .before .before .before .if1 .taken), byte)
-    (behind (now (s .args .stamps)) (wide .result) (s .args .row) (omega (arith, wide .ensures .1))
-    ∙ ap (λ (k : ℕ). getD (now (s .args .stamps)) (s .args .row + k) 0) (wide .ensures .0))
+returns c = search needs
 
 returns-2 : tie.Need-returns-2
 unfolding stampFor
 returns-2 c = rw (lt-leb (c .before .args .row) 1024 (c .if1 .left))
 
 pub stamp-for-spec : {M : Type 1} → statement M
-stamp-for-spec =
-    tie.close
-    (tie.spec wide-requires mul-rows sub-rows part-rows-start part-rows-end mul-result
-    shared-slice-read-result returns returns-2)
+stamp-for-spec = tie.close (tie.spec stamp-in-requires returns returns-2)
