@@ -7,7 +7,7 @@ use lib.Dec.{leb, ltb}
 use lib.ListN.{length, getD}
 use Rattle.common.specs.Choice.{if_then_else_}
 use Rattle.stamp.specs.Stamp.{runIn}
-use Rattle.imprint.specs.Imprint.{stampRoom, imprint}
+use Rattle.imprint.specs.Imprint.{stampRoom, twelveBy}
 use Rattle.bytewise.specs.declared.Press.{Press}
 
 -- a buffer and the press over it
@@ -33,10 +33,13 @@ Ready s = (s .press .row ≡ runOf s * 256) × (runOf s < 5)
 unfoldable pub stampFor : List ℕ → ℕ → ℕ → ℕ
 stampFor stamps row v = if leb row 1024 then getD stamps (row + v % 256) 0 else 0
 
+-- the press behind a stamp at a place, and the stamp's cells with it
+abbrev pub behind : ℕ → ℕ → Press
+behind at e = pressAt (at + 8 + e / 8192) (runIn e * 256)
+
 abbrev pub stamped : List ℕ → Plate → ℕ → Plate
 stamped fours s e =
-    plate (imprint fours (s .buffer) (s .press .at) e)
-    (pressAt (s .press .at + 8 + e / 8192) (runIn e * 256))
+    plate (twelveBy fours (s .buffer) (s .press .at) e) (behind (s .press .at) e)
 
 -- a byte is put down where there is room for a stamp's cells, and else nothing is
 unfoldable pub byteStamped : List ℕ → List ℕ → Plate → ℕ → Plate
@@ -44,3 +47,6 @@ byteStamped stamps fours s v =
     if ltb (length (s .buffer) - s .press .at) stampRoom
     then s
     else stamped fours s (stampFor stamps (s .press .row) v)
+
+abbrev pub twoStamped : List ℕ → List ℕ → Plate → ℕ → ℕ → Plate
+twoStamped stamps fours s v w = byteStamped stamps fours (byteStamped stamps fours s v) w

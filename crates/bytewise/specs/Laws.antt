@@ -14,9 +14,18 @@ use Rattle.line.specs.Laws.Insertion.{runOver-lt}
 use Rattle.stamp.specs.Stamp.{sentAs, twelve, runIn, stampTable, fourTable}
 use Rattle.stamp.specs.Laws.{Says, table-says}
 use Rattle.imprint.specs.Imprint.{stampRoom}
-use Rattle.imprint.specs.Laws.{imprint-fits, over-gone}
+use Rattle.imprint.specs.Laws.{twelve-is, over-gone}
 use Rattle.bytewise.specs.Bytewise.{Plate, plate, pressAt, runOf, Ready, stampFor}
-use Rattle.bytewise.specs.Bytewise.{byteStamped}
+use Rattle.bytewise.specs.Bytewise.{stamped, byteStamped}
+
+-- A byte by any tables, where there is room
+
+pub byte-stamped : (stamps fours : List ℕ) (s : Plate) (v : ℕ)
+    → stampRoom ≤ length (s .buffer) - s .press .at
+    → byteStamped stamps fours s v ≡ stamped fours s (stampFor stamps (s .press .row) v)
+unfolding byteStamped
+byte-stamped stamps fours s v room =
+    rw (le-ltb (length (s .buffer) - s .press .at) stampRoom room)
 
 -- A byte by the right tables
 
@@ -44,7 +53,7 @@ module _ (s : Plate) (v : ℕ) (ready : Ready s)
       rw (
         le-ltb (length (s .buffer) - s .press .at) stampRoom room,
         le-leb (s .press .row) 1024 (omega (arith, ready .0, ready .1)),
-        imprint-fits (s .buffer) (s .press .at) e room,
+        twelve-is (s .buffer) (s .press .at) e,
       )
 
   pub byte-at : put .press .at ≡ s .press .at + length (sentAs run v)

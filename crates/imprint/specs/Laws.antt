@@ -3,9 +3,8 @@
 use mathlib.Core.Path.{_≡_, refl, sym, ap, _∙_}
 use mathlib.Core.Bool.{Bool}
 use mathlib.Core.List.{List, [], _∷_, _++_}
-use Prim.Native.Nat.{ℕ, zero, suc, _+_, _-_, _/_, _%_, _≤_, _<_}
+use Prim.Native.Nat.{ℕ, zero, suc, _+_, _/_, _%_, _≤_, _<_}
 use native.Mathlib.Omega.{arith}
-use borrow.Author.Tests.{le-ltb}
 use lib.ListN.{length, set}
 use lib.Seq.{sets}
 use Rattle.line.specs.Bits.{lowBits, cells}
@@ -13,7 +12,7 @@ use Rattle.line.specs.Laws.Bits.{lowBits-length, cells-length}
 use Rattle.pen.specs.Laws.{cells-sets}
 use Rattle.stamp.specs.Stamp.{twelve, fourTable}
 use Rattle.stamp.specs.Laws.{fourTable-at}
-use Rattle.imprint.specs.Imprint.{stampRoom, imprint}
+use Rattle.imprint.specs.Imprint.{twelveBy}
 
 -- Stores over stores
 
@@ -61,17 +60,15 @@ over-gone l at bits over next h =
 
 -- A stamp's three stores of four
 
-pub imprint-fits : (l : List ℕ) (at e : ℕ) → stampRoom ≤ length l - at
-    → imprint fourTable l at e ≡ sets l at (cells (twelve e))
-unfolding imprint
-imprint-fits l at e h =
+pub twelve-is : (l : List ℕ) (at e : ℕ)
+    → twelveBy fourTable l at e ≡ sets l at (cells (twelve e))
+twelve-is l at e =
     let a = lowBits 4 (e % 16) in
     let b = lowBits 4 (e / 16 % 16) in
     let c = lowBits 4 (e / 2048 % 4) in
     let p : at + length a ≡ at + 4 = omega (arith, lowBits-length 4 (e % 16)) in
     let q : at + 4 + length b ≡ at + 8 = omega (arith, lowBits-length 4 (e / 16 % 16)) in
     rw (
-      le-ltb (length l - at) stampRoom h,
       fourTable-at (e % 16) (omega arith),
       fourTable-at (e / 16 % 16) (omega arith),
       fourTable-at (e / 2048 % 4) (omega arith),

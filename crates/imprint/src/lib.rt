@@ -1,11 +1,11 @@
-// A stamp's cells put down in few wide stores, by a table of four bits that is lent, whatever it holds. Where there is no room, nothing is put
-// down. Assumes nothing.
+// A stamp's cells put down in few wide stores, by a table of four bits that is lent, whatever it
+// holds. Assumes nothing.
 ghost use mathlib.Core.Path.{_≡_};
 ghost use Prim.Native.Nat.{_+_, _-_, _≤_, _<_};
 ghost use lib.Dec.{ltb};
 ghost use lib.ListN.{length};
 ghost use lib.Seq.{sets};
-ghost use Rattle.imprint.specs.Imprint.{stampRoom, fourBy, twelveBy, imprint};
+ghost use Rattle.imprint.specs.Imprint.{stampRoom, fourBy, twelveBy};
 
 // The cells that are stored for a stamp; eight to ten of them count.
 const STAMP_CELLS: usize = 12;
@@ -39,22 +39,13 @@ fn put_four(out: &mut [u8], fours: &[u32; 16], at: usize, n: usize)
     out[at + 3] = (x / 16777216 % 256) as u8;
 }
 
-// Twelve cells, in three stores.
-fn put_twelve(out: &mut [u8], fours: &[u32; 16], at: usize, e: u16)
+// A stamp's twelve cells, in three stores, whatever of them counts: what follows is stored over the
+// rest.
+pub fn put_twelve(out: &mut [u8], fours: &[u32; 16], at: usize, e: u16)
     requires { ⌜ at + 12 ≤ length (now out) ⌝ }
     ensures { λ r. ⌜ now (out .exit) ≡ twelveBy (now (fours .entry)) (now (out .entry)) at e ⌝ }
 {
     put_four(out, fours, at, size(e % 16));
     put_four(out, fours, at + 4, size(e / 16 % 16));
     put_four(out, fours, at + 8, size(e / 2048 % 4));
-}
-
-// A stamp's cells, whatever of them counts: what follows is stored over the rest.
-pub fn put_stamp(out: &mut [u8], fours: &[u32; 16], at: usize, e: u16)
-    ensures { λ r. ⌜ now (out .exit) ≡ imprint (now (fours .entry)) (now (out .entry)) at e ⌝ }
-{
-    if lacks_cells(out.len(), at) {
-        return;
-    }
-    put_twelve(out, fours, at, e);
 }

@@ -3,21 +3,84 @@
 use mathlib.Core.Path.{_≡_, refl, sym, ap, ap₂, _∙_}
 use mathlib.Core.Bool.{Bool}
 use mathlib.Core.List.{List, [], _∷_, _++_}
-use Prim.Native.Nat.{ℕ, zero, suc, _+_, _-_, _*_, _≤_}
+use Prim.Native.Nat.{ℕ, zero, suc, _+_, _-_, _*_, _/_, _%_, _≤_, _<_}
 use native.Mathlib.Omega.{arith}
 use native.Mathlib.Nat.{zero-add}
-use lib.ListN.{length, length-append, drop}
-use lib.Seq.{sets, sets-eq, length-sets}
+use native.Mathlib.Numerals.{add-one}
+use lib.Bits.{bitXor}
+use lib.ListN.{length, length-append, getD, drop, drop-of-length-le}
+use lib.Seq.{sets, sets-eq, length-sets, drop-cons}
 use Rattle.line.specs.Bits.{lowBits, textBits, cells}
+use Rattle.line.specs.Check.{sdlc, ones, checkOver}
 use Rattle.line.specs.Insertion.{stuff, runOver}
-use Rattle.line.specs.Frame.{flagBits, contentOf, withCheck, frame, zerosOf, ticksOf}
+use Rattle.line.specs.Frame.{flagBits, checkBytes, contentOf, withCheck, frame, zerosOf, ticksOf}
+use Rattle.line.specs.Laws.Check.{check-join}
 use Rattle.line.specs.Laws.Bits.{lowBits-length, cells-length}
 use Rattle.line.specs.Laws.Insertion.{stuff-join, stuff-length}
 use Rattle.line.specs.Laws.Frame.{content-is, content-length, ticks-are}
+use Rattle.mirror.specs.Mirror.{mirror, mirroredByte}
+use Rattle.mirror.specs.Laws.{mirror-ones, mirror-bytes, mirroredByte-lt, mirror-mirroredByte}
 use Rattle.pen.specs.Pen.{Sheet, sheet, penAt, bitsPut, bytePut, flagPut}
 use Rattle.pen.specs.Laws.{cells-sets, put-none, put-join, put-size, put-at}
 use Rattle.pen.specs.Laws.{put-width, byte-fits, flag-fits}
-use Rattle.layout.specs.Layout.{bytesPut, contentPut, framePut}
+use Rattle.layout.specs.Layout.{bytesPut, mirroredOver, contentPut, framePut}
+
+-- A text and what follows it; a byte more of it, and none left
+
+pub bytes-join : (s : Sheet) (vs ws : List ℕ)
+    → bytesPut s (vs ++ ws) ≡ bytesPut (bytesPut s vs) ws
+unfolding bytesPut
+bytes-join s [] ws = refl
+bytes-join s (v ∷ vs) ws = bytes-join (bytePut s v) vs ws
+
+pub bytes-step : (s : Sheet) (text : List ℕ) (i : ℕ) → i < length text
+    → bytesPut s (drop i text) ≡ bytesPut (bytePut s (getD text i 0)) (drop (i + 1) text)
+unfolding bytesPut
+bytes-step s text i h = rw (drop-cons text i 0 h, add-one)
+
+pub bytes-none : (s : Sheet) (text : List ℕ) (i : ℕ) → length text ≤ i
+    → bytesPut s (drop i text) ≡ s
+unfolding bytesPut
+bytes-none s text i h = rw (drop-of-length-le text h)
+
+pub over-step : (m : ℕ) (text : List ℕ) (i : ℕ) → i < length text
+    → mirroredOver m (drop i text)
+    ≡ mirroredOver (mirroredByte m (getD text i 0)) (drop (i + 1) text)
+unfolding mirroredOver
+over-step m text i h = rw (drop-cons text i 0 h, add-one)
+
+pub over-none : (m : ℕ) (text : List ℕ) (i : ℕ) → length text ≤ i
+    → mirroredOver m (drop i text) ≡ m
+unfolding mirroredOver
+over-none m text i h = rw (drop-of-length-le text h)
+
+pub over-lt : (m : ℕ) (vs : List ℕ) → m < 65536 → mirroredOver m vs < 65536
+unfolding mirroredOver
+over-lt m [] h = h
+over-lt m (v ∷ vs) h = over-lt (mirroredByte m v) vs (mirroredByte-lt m v)
+
+over-is : (m : ℕ) (vs : List ℕ)
+    → checkOver sdlc (mirror 16 m) (textBits 8 vs) ≡ mirror 16 (mirroredOver m vs)
+unfolding mirroredOver textBits checkOver
+over-is m [] = refl
+over-is m (v ∷ vs) =
+    check-join sdlc (mirror 16 m) (lowBits 8 v) (textBits 8 vs)
+    ∙ ap (λ (r : ℕ). checkOver sdlc r (textBits 8 vs)) (sym (mirror-mirroredByte m v))
+    ∙ over-is (mirroredByte m v) vs
+
+-- a note and the two bytes of its check, from the mirrored register over it
+pub check-behind : (note : List ℕ)
+    → note
+    ++ (bitXor (mirroredOver ones note) ones % 256
+    ∷ bitXor (mirroredOver ones note) ones / 256
+    ∷ [])
+    ≡ withCheck note
+check-behind note =
+    let m = mirroredOver ones note in
+    let r : checkOver sdlc ones (textBits 8 note) ≡ mirror 16 m =
+    rw mirror-ones at (over-is ones note) in
+    ap (λ (l : List ℕ). note ++ l)
+    (sym (ap checkBytes r ∙ mirror-bytes m (over-lt ones note (omega arith))))
 
 -- Bytes are put down where there is room for them and a flag behind them: each has then room for
 -- itself and eight cells more, and takes eight at least.

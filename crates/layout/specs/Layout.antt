@@ -2,12 +2,18 @@
 use mathlib.Core.List.{List, [], _∷_}
 use Prim.Native.Nat.{ℕ}
 use Rattle.line.specs.Frame.{withCheck}
+use Rattle.mirror.specs.Mirror.{mirroredByte}
 use Rattle.pen.specs.Pen.{Sheet, sheet, penAt, bytePut, flagPut}
 
 -- bytes put down one after another
 unfoldable pub bytesPut : Sheet → List ℕ → Sheet
 bytesPut s [] = s
 bytesPut s (v ∷ vs) = bytesPut (bytePut s v) vs
+
+-- the mirrored check register after them
+unfoldable pub mirroredOver : ℕ → List ℕ → ℕ
+mirroredOver m [] = m
+mirroredOver m (v ∷ vs) = mirroredOver (mirroredByte m v) vs
 
 -- the flag that opens the frame, and behind it the note and its check
 unfoldable pub contentPut : List ℕ → List ℕ → Sheet

@@ -78,13 +78,30 @@ withLookup-is note =
     ap (λ (l : List ℕ). note ++ l)
     (ap (λ (x : ℕ). k % 256 ∷ x ∷ []) high ∙ sym (mirror-bytes m small) ∙ ap checkBytes r)
 
--- As a loop meets it: a byte more, and none left
+-- As a loop meets it: a byte more, two more, and none left
 
 pub lookup-step : (checks note : List ℕ) (i m : ℕ) → i < length note
     → withLookup checks m (drop i note)
     ≡ getD note i 0 ∷ withLookup checks (lookedUp checks m (getD note i 0)) (drop (i + 1) note)
 unfolding withLookup lookedOver
 lookup-step checks note i m h = rw (drop-cons note i 0 h, add-one)
+
+pub lookup-two : (checks note : List ℕ) (i m : ℕ) → i + 1 < length note
+    → withLookup checks m (drop i note)
+    ≡ getD note i 0
+    ∷ getD note (i + 1) 0
+    ∷ withLookup checks
+    (lookedUp checks (lookedUp checks m (getD note i 0)) (getD note (i + 1) 0))
+    (drop (i + 2) note)
+lookup-two checks note i m h =
+    let v = getD note i 0 in
+    let w = getD note (i + 1) 0 in
+    let next = lookedUp checks m v in
+    let place : i + 1 + 1 ≡ i + 2 = omega arith in
+    lookup-step checks note i m (omega arith)
+    ∙ ap (λ (l : List ℕ). v ∷ l)
+    (lookup-step checks note (i + 1) next h
+    ∙ ap (λ (k : ℕ). w ∷ withLookup checks (lookedUp checks next w) (drop k note)) place)
 
 pub lookup-none : (checks note : List ℕ) (i m : ℕ) → length note ≤ i
     → withLookup checks m (drop i note) ≡ sentCheck m

@@ -20,11 +20,19 @@ module _ (out : List ℕ) (p : Pen) (v : ℕ) (k : Insertion) (e : k ≡ counted
   two-long h = rw (sym (ap (λ (i : Insertion). i .owed) e) ∙ h)
 
   pub two-put : k .owed ≡ true
-      → sheet (set (set out (p .at) (v % 2)) (p .at + 1) 0) (penAt (p .at + 2) (k .run)) ≡ bitsPut (sheet out p) (odd v ∷ [])
+      → sheet (set (set out (p .at) (v % 2)) (p .at + 1) 0) (penAt (p .at + 1 + 1) (k .run))
+      ≡ bitsPut (sheet out p) (odd v ∷ [])
   unfolding bitsPut stuff runOver cells
   two-put h =
+      let two : p .at + 1 + 1 ≡ p .at + 2 = omega arith in
       let one : p .at + 1 ≡ suc (p .at) = omega arith in
-      rw (sym (ap (λ (i : Insertion). i .owed) e) ∙ h, ap (λ (i : Insertion). i .run) e, odd-is v, one)
+      rw (
+        two,
+        sym (ap (λ (i : Insertion). i .owed) e) ∙ h,
+        ap (λ (i : Insertion). i .run) e,
+        odd-is v,
+        one,
+      )
 
   pub one-put : k .owed ≡ false
       → sheet (set out (p .at) (v % 2)) (penAt (p .at + 1) (k .run)) ≡ bitsPut (sheet out p) (odd v ∷ [])

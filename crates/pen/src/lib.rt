@@ -4,10 +4,11 @@ use line::Insertion;
 ghost use mathlib.Core.Path.{_≡_};
 ghost use mathlib.Core.List.{[], _∷_};
 ghost use Prim.Native.Nat.{_+_, _-_, _≤_};
+ghost use lib.Dec.{ltb};
 ghost use lib.ListN.{length};
 ghost use Rattle.line.specs.Bits.{odd};
 ghost use Rattle.line.specs.Insertion.{stuff};
-ghost use Rattle.pen.specs.Pen.{sheet, bitsPut, bytePut, flagPut};
+ghost use Rattle.pen.specs.Pen.{sheet, bitsPut, byteCells, bytePut, flagPut};
 
 // Where the next bit goes, and how many ones in a row went before it.
 pub struct Pen {
@@ -29,6 +30,17 @@ pub fn room_from(len: usize, at: usize) -> usize
     if len < at { 0 } else { len - at }
 }
 
+// Whether fewer cells than a byte's are left from a place on. The bound does not hang on the place,
+// so that a loop works it out once.
+fn lacks_cells(len: usize, at: usize) -> bool
+    ensures { λ r. ⌜ r ≡ ltb (len - at) byteCells ⌝ }
+{
+    if len < BYTE_CELLS {
+        return true;
+    }
+    len - BYTE_CELLS < at
+}
+
 // The low bit of v, with the zero that it owes.
 fn put_bit(out: &mut [u8], p: Pen, v: u8) -> Pen
     requires { ⌜ p .at + length (stuff (p .run) (odd v ∷ [])) ≤ length (now out) ⌝ }
@@ -38,15 +50,16 @@ fn put_bit(out: &mut [u8], p: Pen, v: u8) -> Pen
     let at = p.at;
     let k = Insertion::counted(p.run, v % 2 == 1);
     out[at] = v % 2;
+    let next = at + 1;
     if k.owed {
-        out[at + 1] = 0;
+        out[next] = 0;
         return Pen {
-            at: at + 2,
+            at: next + 1,
             run: k.run,
         };
     }
     Pen {
-        at: at + 1,
+        at: next,
         run: k.run,
     }
 }
@@ -56,7 +69,7 @@ pub fn put_byte(out: &mut [u8], p: Pen, v: u8) -> Pen
     ensures { λ r. ⌜ r ≡ bytePut (sheet (now (out .entry)) p) v .pen ⌝ }
     ensures { λ r. ⌜ now (out .exit) ≡ bytePut (sheet (now (out .entry)) p) v .buffer ⌝ }
 {
-    if room_from(out.len(), p.at) < BYTE_CELLS {
+    if lacks_cells(out.len(), p.at) {
         return p;
     }
     let mut q = p;

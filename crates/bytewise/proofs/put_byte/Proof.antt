@@ -23,32 +23,12 @@ stamp-for-requires : tie.Need-stamp-for-requires
 stamp-for-requires c κs = search needs
 
 put-stamp-requires : tie.Need-put-stamp-requires
-put-stamp-requires c κs = search needs
-
-add-t9 : tie.Need-add-t9
-add-t9 c =
-    let b = c .before .before .before .before .before in
+put-stamp-requires c κs =
+    let b = c .before .before in
     let s = b .before .before .before in
-    let at = s .args .p .at in
-    let room = ltb-false (length (now (s .args .out)) - at) 12 (sym (b .before .lacks-cells .ensures) ∙ b .if1 .left) in
-    omega (arith, room, s .good .0 .0, s .good .0 .1)
-
-size-requires : tie.Need-size-requires
-size-requires c κs = search needs
-
-add-t15 : tie.Need-add-t15
-add-t15 c =
-    let b = c .before .before .before .before .before .before in
-    let s = b .before .before .before in
-    let at = s .args .p .at in
-    let room = ltb-false (length (now (s .args .out)) - at) 12 (sym (b .before .lacks-cells .ensures) ∙ b .if1 .left) in
-    omega (arith, room, s .good .0 .0, s .good .0 .1, c .size .ensures .1)
-
-size-requires-2 : tie.Need-size-requires-2
-size-requires-2 c κs = search needs
-
-mul-t19 : tie.Need-mul-t19
-mul-t19 c = search needs
+    let long = sym (b .before .lacks-cells .ensures) ∙ b .if1 .left in
+    let room = ltb-false (length (now (s .args .out)) - s .args .p .at) 12 long in
+    omega (arith, room)
 
 same-length : tie.Need-same-length
 same-length c = search needs
@@ -56,29 +36,18 @@ same-length c = search needs
 returns-2 : tie.Need-returns-2
 unfolding byteStamped
 returns-2 c =
-    let b = c .before .before .before .before .before .before .before in
-    let room = sym (b .before .lacks-cells .ensures) ∙ b .if1 .left in
+    let b = c .before .before .before .before .before in
+    let put = c .before .before .put-stamp .ensures in
     rw (
-      room,
-      c .before .before .before .before .put-stamp .ensures,
-      c .before .size .ensures .0,
-      c .size2 .ensures .0,
-      c .before .before .before .before .before .before .stamp-for .ensures,
+      sym (b .before .lacks-cells .ensures) ∙ b .if1 .left,
+      put .0,
+      put .1 .0,
+      c .before .before .before .before .stamp-for .ensures,
     )
     (refl, refl)
 
 pub put-byte-spec : {M : Type 1} → statement M
 put-byte-spec =
     tie.close
-    (tie.spec
-    lacks-cells-requires
-    returns
-    stamp-for-requires
-    put-stamp-requires
-    add-t9
-    size-requires
-    add-t15
-    size-requires-2
-    mul-t19
-    same-length
+    (tie.spec lacks-cells-requires returns stamp-for-requires put-stamp-requires same-length
     returns-2)

@@ -1,104 +1,70 @@
--- `layout::put_content` meets its contract: the bytes that remain, put down from the pen on, make what all of them made from the first place.
--- Assumes nothing.
+-- `layout::put_content` meets its contract: the note and then its check are one text. Assumes
+-- nothing.
 use native.Mathlib.Omega.{arith}
-use mathlib.Core.Path.{_≡_, refl, sym, ap, _∙_}
+use mathlib.Core.Path.{_≡_, sym, ap, ap₂, _∙_}
+use mathlib.Core.List.{List, [], _∷_, _++_}
+use Prim.Native.Nat.{ℕ, _/_, _%_, _<_}
 use borrow.Author.Needs.{needs}
-use Prim.Native.Nat.{_-_, _<_}
-use lib.Bits.{xor-lt}
-use lib.ListN.{length, getD}
+use lib.Bits.{bitXor, xor-lt}
 use denote.Ref.{now}
+use Rattle.line.specs.Check.{ones}
 use Rattle.line.specs.Frame.{withCheck}
-use Rattle.mirror.specs.Laws.{mirroredByte-lt, remaining, remaining-all, remaining-step, remaining-none}
+use Rattle.pen.specs.declared.Pen.{Pen}
 use Rattle.pen.specs.Pen.{Sheet, sheet, penAt}
 use Rattle.layout.specs.Layout.{bytesPut}
+use Rattle.layout.specs.Laws.{bytes-join, over-lt, check-behind}
 use Rattle.layout.proofs.put_content.Statement.{statement}
 use Rattle.layout.proofs.put_content.Tie as tie
 
-abbrev Inv-loop : tie.InvT-loop
-Inv-loop out₀ note q₀ m₀ i₀ out q m i =
-    (bytesPut (sheet out q) (remaining note i m) ≡ bytesPut (sheet out₀ q₀) (withCheck note)) × ((length out ≡ length out₀) × (m < 65536))
+-- the check's two bytes, from the mirrored register
+abbrev checked : ℕ → List ℕ
+checked m = bitXor m ones % 256 ∷ bitXor m ones / 256 ∷ []
 
-abbrev μ-loop : tie.MeasureT-loop
-μ-loop out₀ note q₀ m₀ i₀ out q m i = length note - i
+put-text-requires : tie.Need-put-text-requires
+put-text-requires c κs = search needs
 
-loop-holds : tie.Need-loop-holds Inv-loop μ-loop
-loop-holds c =
-    let a = c .before .before .args in
-    (ap (bytesPut (sheet (now (a .out)) (penAt 8 0))) (remaining-all (now (a .note))), (refl, omega arith))
+cast-t11 : tie.Need-cast-t11
+cast-t11 c = search needs
 
-shared-slice-read-v : tie.Need-shared-slice-read-v Inv-loop μ-loop
-shared-slice-read-v c = omega arith
+cast-t13 : tie.Need-cast-t13
+cast-t13 c =
+    let first = c .before .before .before .put-text in
+    let note = now (c .before .before .before .before .before .before .before .args .note) in
+    let small : first .result .m < 65536 =
+    rw (first .ensures .1 .0) (over-lt ones note (omega arith)) in
+    omega (arith, xor-lt 16 (first .result .m) 65535 small (omega arith))
 
-put-byte-requires : tie.Need-put-byte-requires Inv-loop μ-loop
-put-byte-requires c κs = search needs
+slice-aggregate-put-text : tie.Need-slice-aggregate-put-text
+slice-aggregate-put-text c = search needs
 
-mirrored-byte-requires : tie.Need-mirrored-byte-requires Inv-loop μ-loop
-mirrored-byte-requires c κs = search needs
+put-text-requires-2 : tie.Need-put-text-requires-2
+put-text-requires-2 c κs = search needs
 
-add-i : tie.Need-add-i Inv-loop μ-loop
-add-i c = omega arith
+same-length : tie.Need-same-length
+same-length c = search needs
 
-loop-less : tie.Need-loop-less Inv-loop μ-loop
-loop-less c = omega arith
-
-loop-again : tie.Need-loop-again Inv-loop μ-loop
-unfolding bytesPut
-loop-again c =
-    let b = c .before .before .before .before .before .before in
-    let l = b .before .loop in
-    let note = now (b .before .before .before .before .args .note) in
-    let put = c .before .before .before .put-byte in
-    let small = mirroredByte-lt (l .m) (getD note (l .i) 0) in (
-      rw (put .ensures .0, put .ensures .1, c .mirrored-byte .ensures) (rw (remaining-step note (l .i) (l .m) (b .loop-test .taken)) at (l .inv .0)),
-      (put .kept .0 ∙ l .inv .1 .0, rw (c .mirrored-byte .ensures) small),
-    )
-
-cast-put-byte : tie.Need-cast-put-byte Inv-loop μ-loop
-cast-put-byte c = omega arith
-
-put-byte-requires-2 : tie.Need-put-byte-requires-2 Inv-loop μ-loop
-put-byte-requires-2 c κs = search needs
-
-cast-put-byte-2 : tie.Need-cast-put-byte-2 Inv-loop μ-loop
-cast-put-byte-2 c =
-    let l = c .before .before .before .before .before .before .loop in
-    omega (arith, xor-lt 16 (l .m) 65535 (l .inv .1 .1) (omega arith))
-
-put-byte-requires-3 : tie.Need-put-byte-requires-3 Inv-loop μ-loop
-put-byte-requires-3 c κs = search needs
-
-same-length : tie.Need-same-length Inv-loop μ-loop
-same-length c =
-    c .before .before .put-byte3 .kept .0 ∙ c .before .before .before .before .before .before .put-byte2 .kept .0
-    ∙ c .before .before .before .before .before .before .before .before .before .loop .inv .1 .0
-
-returns : tie.Need-returns Inv-loop μ-loop
-unfolding bytesPut
+returns : tie.Need-returns
 returns c =
-    let b = c .before .before .before .before .before .before .before .before in
-    let l = b .before .loop in
-    let note = now (b .before .before .before .before .args .note) in
-    let last = c .before .before .put-byte3 .ensures in
-    let first = c .before .before .before .before .before .before .put-byte2 .ensures in
-    let all = rw (remaining-none note (l .i) (l .m) (b .loop-test .left) (l .inv .1 .1)) at (l .inv .0) in
-    rw (last .0, last .1, first .0, first .1) (ap (λ (s : Sheet). s .pen .at) all, ap (λ (s : Sheet). s .buffer) all)
+    let second = c .before .before .put-text2 in
+    let before = c .before .before .before .before .before .before .before .before in
+    let first = before .put-text in
+    let a = before .before .before .before .before .args in
+    let note = now (a .note) in
+    let start = sheet (now (a .out)) (penAt 8 0) in
+    let two = checked (first .result .m) in
+    let behind = ap₂ sheet (first .ensures .1 .1) (first .ensures .0) in
+    let all : bytesPut (sheet (first .last .0) (first .result .pen)) two
+    ≡ bytesPut start (withCheck note) =
+    ap (λ (s : Sheet). bytesPut s two) behind
+    ∙ sym (bytes-join start note two)
+    ∙ ap (bytesPut start)
+    (ap (λ (m : ℕ). note ++ checked m) (first .ensures .1 .0) ∙ check-behind note) in (
+      ap (λ (q : Pen). q .at) (second .ensures .0) ∙ ap (λ (s : Sheet). s .pen .at) all,
+      second .ensures .1 .1 ∙ ap (λ (s : Sheet). s .buffer) all,
+    )
 
 pub put-content-spec : {M : Type 1} → statement M
 put-content-spec =
     tie.close
-    (tie.spec
-    Inv-loop
-    μ-loop
-    loop-holds
-    shared-slice-read-v
-    put-byte-requires
-    mirrored-byte-requires
-    add-i
-    loop-less
-    loop-again
-    cast-put-byte
-    put-byte-requires-2
-    cast-put-byte-2
-    put-byte-requires-3
-    same-length
-    returns)
+    (tie.spec put-text-requires cast-t11 cast-t13 slice-aggregate-put-text put-text-requires-2
+    same-length returns)

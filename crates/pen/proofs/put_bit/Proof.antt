@@ -17,8 +17,8 @@ slice-write-out : tie.Need-slice-write-out
 unfolding stuff
 slice-write-out c = omega (arith, c .before .before .pre)
 
-add-out : tie.Need-add-out
-add-out c = search needs
+add-next : tie.Need-add-next
+add-next c = search needs
 
 slice-write-out-2 : tie.Need-slice-write-out-2
 slice-write-out-2 c =
@@ -26,8 +26,8 @@ slice-write-out-2 c =
     let n = two-long (now (a .out)) (a .p) (a .v) (c .before .counted .result) (c .before .counted .ensures) (c .if1 .taken) in
     simp length-set (omega (arith, c .before .before .before .pre))
 
-add-t9 : tie.Need-add-t9
-add-t9 c = search needs
+add-t11 : tie.Need-add-t11
+add-t11 c = search needs
 
 same-length : tie.Need-same-length
 same-length c = search needs
@@ -37,9 +37,6 @@ returns c =
     let a = c .before .before .before .args in
     let e = two-put (now (a .out)) (a .p) (a .v) (c .before .counted .result) (c .before .counted .ensures) (c .if1 .taken) in
     (ap (λ (s : Sheet). s .pen) e, ap (λ (s : Sheet). s .buffer) e)
-
-add-t11 : tie.Need-add-t11
-add-t11 c = search needs
 
 same-length-2 : tie.Need-same-length-2
 same-length-2 c = search needs
@@ -56,11 +53,10 @@ put-bit-spec =
     (tie.spec
     counted-requires
     slice-write-out
-    add-out
+    add-next
     slice-write-out-2
-    add-t9
+    add-t11
     same-length
     returns
-    add-t11
     same-length-2
     returns-2)

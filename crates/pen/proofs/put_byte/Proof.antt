@@ -5,10 +5,12 @@ use mathlib.Core.Path.{_≡_, refl, sym, ap, _∙_}
 use mathlib.Core.List.{[], _∷_}
 use borrow.Author.Needs.{needs}
 use Prim.Native.Nat.{_-_, _/_}
+use borrow.Author.Tests.{ltb-true, ltb-false}
+use lib.ListN.{length}
 use denote.Ref.{now}
 use Rattle.line.specs.Bits.{odd, lowBits}
 use Rattle.line.specs.Laws.Bits.{low-step, low-none}
-use Rattle.pen.specs.Pen.{Sheet, sheet, bitsPut}
+use Rattle.pen.specs.Pen.{Sheet, sheet, bitsPut, byteCells}
 use Rattle.pen.specs.Laws.{put-none, put-join, byte-fits, byte-left-out, byte-short, same-size, same-room}
 use Rattle.pen.proofs.put_byte.Statement.{statement}
 use Rattle.pen.proofs.put_byte.Tie as tie
@@ -19,13 +21,16 @@ Inv-loop out₀ v q₀ rest₀ left₀ out q rest left = bitsPut (sheet out q) (
 abbrev μ-loop : tie.MeasureT-loop
 μ-loop out₀ v q₀ rest₀ left₀ out q rest left = left
 
-room-from-requires : tie.Need-room-from-requires Inv-loop μ-loop
-room-from-requires c κs = search needs
+lacks-cells-requires : tie.Need-lacks-cells-requires Inv-loop μ-loop
+lacks-cells-requires c κs = search needs
 
 returns : tie.Need-returns Inv-loop μ-loop
 returns c =
     let a = c .before .before .before .args in
-    let e = byte-left-out (sheet (now (a .out)) (a .p)) (a .v) (omega (arith, c .before .room-from .ensures, c .if1 .taken)) in
+    let short = sym (c .before .lacks-cells .ensures) ∙ c .if1 .taken in
+    let e =
+    byte-left-out (sheet (now (a .out)) (a .p)) (a .v)
+    (ltb-true (length (now (a .out)) - a .p .at) byteCells short) in
     (ap (λ (s : Sheet). s .pen) (sym e), ap (λ (s : Sheet). s .buffer) (sym e))
 
 loop-holds : tie.Need-loop-holds Inv-loop μ-loop
@@ -37,8 +42,11 @@ put-bit-requires c κs =
     let a = b .before .before .before .args in
     let l = c .before .before .loop in
     let s = rw (low-step (l .left) (l .rest) (c .before .loop-test .taken)) at (l .inv) in
-    same-room (sheet (now (a .out)) (a .p)) (sheet (l .out) (l .q)) (lowBits 8 (a .v)) (odd (l .rest) ∷ []) (lowBits (l .left - 1) (l .rest / 2)) s
-    (omega (arith, b .before .room-from .ensures, b .if1 .left, byte-short (a .p .run) (a .v)))
+    let long = sym (b .before .lacks-cells .ensures) ∙ b .if1 .left in
+    let room = ltb-false (length (now (a .out)) - a .p .at) byteCells long in
+    same-room (sheet (now (a .out)) (a .p)) (sheet (l .out) (l .q)) (lowBits 8 (a .v))
+    (odd (l .rest) ∷ []) (lowBits (l .left - 1) (l .rest / 2)) s
+    (omega (arith, room, byte-short (a .p .run) (a .v)))
 
 sub-left : tie.Need-sub-left Inv-loop μ-loop
 sub-left c = omega arith
@@ -68,7 +76,10 @@ returns-2 c =
     let l = c .before .loop in
     let here = sheet (l .out) (l .q) in
     let done = rw (low-none (l .left) (l .rest) (c .loop-test .left), put-none here) at (l .inv) in
-    let fits = byte-fits (sheet (now (a .out)) (a .p)) (a .v) (omega (arith, b .before .room-from .ensures, b .if1 .left)) in
+    let long = sym (b .before .lacks-cells .ensures) ∙ b .if1 .left in
+    let fits =
+    byte-fits (sheet (now (a .out)) (a .p)) (a .v)
+    (ltb-false (length (now (a .out)) - a .p .at) byteCells long) in
     let e = done ∙ sym fits in
     (ap (λ (s : Sheet). s .pen) e, ap (λ (s : Sheet). s .buffer) e)
 
@@ -78,7 +89,7 @@ put-byte-spec =
     (tie.spec
     Inv-loop
     μ-loop
-    room-from-requires
+    lacks-cells-requires
     returns
     loop-holds
     put-bit-requires
