@@ -1,4 +1,4 @@
--- `zeros::count` meets its contract: the bytes that remain, the check's two among them, make of the present tally what the content makes of none.
+-- `counting::count` meets its contract: the bytes that remain, the check's two among them, make of the present tally what the content makes of none.
 -- Assumes nothing.
 use native.Mathlib.Omega.{arith}
 use mathlib.Core.Path.{_≡_, sym, ap, _∙_}
@@ -16,11 +16,11 @@ use Rattle.line.specs.Frame.{contentOf}
 use Rattle.line.specs.Laws.Frame.{content-is, zeros-few}
 use Rattle.mirror.specs.Mirror.{mirroredByte}
 use Rattle.mirror.specs.Laws.{mirroredByte-lt, remaining, remaining-all, remaining-step, remaining-none}
-use Rattle.zeros.specs.declared.Tally.{Tally}
-use Rattle.zeros.specs.Zeros.{tally, tallied}
-use Rattle.zeros.proofs.Laws.{tallied-byte, tallied-last, tallied-runs}
-use Rattle.zeros.proofs.count.Statement.{statement}
-use Rattle.zeros.proofs.count.Tie as tie
+use Rattle.tally.specs.declared.Tally.{Tally}
+use Rattle.tally.specs.Tally.{tally, tallied}
+use Rattle.counting.proofs.Laws.{tallied-byte, tallied-last, tallied-runs}
+use Rattle.counting.proofs.count.Statement.{statement}
+use Rattle.counting.proofs.count.Tie as tie
 
 abbrev Inv-loop : tie.InvT-loop
 Inv-loop note t₀ m₀ i₀ t m i =

@@ -1,7 +1,7 @@
--- `zeros::top_ones` meets its contract: each return by the facts on its way. Assumes nothing.
-use Rattle.zeros.proofs.Branch.{tests}
-use Rattle.zeros.proofs.top_ones.Statement.{statement}
-use Rattle.zeros.proofs.top_ones.Tie as tie
+-- `tally::top_ones` meets its contract: each return by the facts on its way. Assumes nothing.
+use Rattle.tally.proofs.Branch.{tests}
+use Rattle.tally.proofs.top_ones.Statement.{statement}
+use Rattle.tally.proofs.top_ones.Tie as tie
 
 returns : tie.Need-returns
 returns c = simp (tests, c .if1 .taken)

@@ -1,7 +1,7 @@
--- `zeros::ones_after` meets its contract: each return by the facts on its way. Assumes nothing.
+-- `tally::ones_after` meets its contract: each return by the facts on its way. Assumes nothing.
 use borrow.Author.Needs.{needs}
-use Rattle.zeros.proofs.ones_after.Statement.{statement}
-use Rattle.zeros.proofs.ones_after.Tie as tie
+use Rattle.tally.proofs.ones_after.Statement.{statement}
+use Rattle.tally.proofs.ones_after.Tie as tie
 
 add-result : tie.Need-add-result
 add-result c = search needs
