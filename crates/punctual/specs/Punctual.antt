@@ -27,12 +27,12 @@ use Rattle.history.specs.Sending.Events.{tickedOf, tick-side, tick-more, write-
 use Rattle.history.specs.Sending.Events.{skip-ticks}
 use Rattle.timely.specs.Start.{start-side}
 use Rattle.timely.specs.InTime.{InTime, over, still, writes, next-frame, ticking}
 use Rattle.hosts.specs.Loaded.{senderOf, leaves, loaded, idles, onMore, passed, Host}
 use Rattle.hosts.specs.Loaded as hosts
 use Rattle.hosts.specs.Steps.{Going, meant, steps}
 use Rattle.hosts.specs.Steps as steps
-use Rattle.hosts.specs.Statement.{InTimeLoads}
+use Rattle.punctual.specs.Statement.{InTimeLoads}
 use Rattle.hosts.specs.Line.{skip-loaded, skip-passed, tick-loaded, tick-passed}
 
 stage-going : {s : Framer} {n : ℕ} {rest : List ℕ} → Stage false s n rest → Going s
 stage-going (opening k b f c n rest m p) = steps.opening k b f c
