@@ -18,7 +18,9 @@ use Rattle.mirror.specs.Mirror.{mirroredByte}
 use Rattle.mirror.specs.Laws.{mirroredByte-lt, remaining, remaining-all, remaining-step, remaining-none}
 use Rattle.tally.specs.declared.Tally.{Tally}
 use Rattle.tally.specs.Tally.{tally, tallied}
-use Rattle.counting.proofs.Laws.{tallied-byte, tallied-last, tallied-runs}
+use Rattle.tally.specs.Laws.{tallied-byte, tallied-last, tallied-runs}
+use Rattle.counting.specs.Counting.{zerosIn, zerosIn-few}
+use Rattle.counting.proofs.Branch.{tests}
 use Rattle.counting.proofs.count.Statement.{statement}
 use Rattle.counting.proofs.count.Tie as tie
 
@@ -43,9 +45,13 @@ last-byte note t i m e h l =
     sym (tallied-byte t (bitXor m ones % 256) (bitXor m ones / 256 ∷ []))
     ∙ (rw (remaining-none note i m h l) at e)
 
+returns : tie.Need-returns Inv-loop μ-loop
+unfolding zerosIn
+returns c = simp (tests, c .if1 .taken)
+
 loop-holds : tie.Need-loop-holds Inv-loop μ-loop
 loop-holds c =
-    let note = now (c .before .args .note) in
+    let note = now (c .before .before .args .note) in
     (ap (tallied (tally 0 0)) (ap (textBits 8) (remaining-all note) ∙ sym (content-is note)), (omega arith, (omega arith, omega arith)))
 
 shared-slice-read-v : tie.Need-shared-slice-read-v Inv-loop μ-loop
@@ -54,8 +60,9 @@ shared-slice-read-v c = omega arith
 count-byte-requires : tie.Need-count-byte-requires Inv-loop μ-loop
 count-byte-requires c κs =
     let l = c .before .before .loop in
-    let s = c .before .before .before .before in
-    let n = few (now (s .args .note)) (l .t) (textBits 8 (remaining (now (s .args .note)) (l .i) (l .m))) (s .pre) (l .inv .0) in
+    let s = c .before .before .before in
+    let note = now (s .before .before .args .note) in
+    let n = few note (l .t) (textBits 8 (remaining note (l .i) (l .m))) (s .if1 .left) (l .inv .0) in
     (omega (arith, l .inv .1 .0), (omega (arith, l .inv .1 .1 .0), omega (arith, l .inv .1 .1 .0)))
 
 mirrored-byte-requires : tie.Need-mirrored-byte-requires Inv-loop μ-loop
@@ -70,7 +77,7 @@ loop-less c = omega arith
 loop-again : tie.Need-loop-again Inv-loop μ-loop
 loop-again c =
     let l = c .before .before .before .before .loop in
-    let note = now (c .before .before .before .before .before .before .args .note) in
+    let note = now (c .before .before .before .before .before .before .before .args .note) in
     let v = getD note (l .i) 0 in
     let rest = remaining note (l .i + 1) (mirroredByte (l .m) v) in
     let all = rw (remaining-step note (l .i) (l .m) (c .before .before .before .loop-test .taken)) at (l .inv .0) in
@@ -85,8 +92,9 @@ cast-count-byte c = omega arith
 count-byte-requires-2 : tie.Need-count-byte-requires-2 Inv-loop μ-loop
 count-byte-requires-2 c κs =
     let l = c .before .loop in
-    let s = c .before .before .before in
-    let n = few (now (s .args .note)) (l .t) (textBits 8 (remaining (now (s .args .note)) (l .i) (l .m))) (s .pre) (l .inv .0) in
+    let s = c .before .before in
+    let note = now (s .before .before .args .note) in
+    let n = few note (l .t) (textBits 8 (remaining note (l .i) (l .m))) (s .if1 .left) (l .inv .0) in
     (omega (arith, l .inv .1 .0), (omega (arith, l .inv .1 .1 .0), omega (arith, l .inv .1 .1 .0)))
 
 cast-count-byte-2 : tie.Need-cast-count-byte-2 Inv-loop μ-loop
@@ -97,26 +105,27 @@ cast-count-byte-2 c =
 count-byte-requires-3 : tie.Need-count-byte-requires-3 Inv-loop μ-loop
 count-byte-requires-3 c κs =
     let l = c .before .before .loop in
-    let s = c .before .before .before .before in
-    let note = now (s .args .note) in
+    let s = c .before .before .before in
+    let note = now (s .before .before .args .note) in
     let check = bitXor (l .m) ones in
     let t = tallied (l .t) (lowBits 8 (check % 256)) in
     let runs = tallied-runs (l .t) (lowBits 8 (check % 256)) (l .inv .1 .1 .0) in
     let last = last-byte note (l .t) (l .i) (l .m) (l .inv .0) (c .before .loop-test .left) (l .inv .1 .1 .1) in
-    let n = few note t (textBits 8 (check / 256 ∷ [])) (s .pre) last in
+    let n = few note t (textBits 8 (check / 256 ∷ [])) (s .if1 .left) last in
     rw (c .count-byte2 .ensures) (runs .0, (runs .1, omega (arith, n, runs .1)))
 
-returns : tie.Need-returns Inv-loop μ-loop
-returns c =
+returns-2 : tie.Need-returns-2 Inv-loop μ-loop
+returns-2 c =
     let l = c .before .before .before .before .loop in
-    let note = now (c .before .before .before .before .before .before .args .note) in
+    let note = now (c .before .before .before .before .before .before .before .args .note) in
     let check = bitXor (l .m) ones in
     let t = tallied (l .t) (lowBits 8 (check % 256)) in
     let all = last-byte note (l .t) (l .i) (l .m) (l .inv .0) (c .before .before .before .loop-test .left) (l .inv .1 .1 .1) in
     let end : tallied t (lowBits 8 (check / 256)) ≡ tallied (tally 0 0) (contentOf note) =
     sym (tallied-last t (check / 256)) ∙ all in
+    let few = zerosIn-few note (c .before .before .before .before .before .if1 .left) in
     rw (c .before .count-byte3 .ensures, c .before .before .count-byte2 .ensures)
-    (omega (arith, ap (λ (x : Tally). x .closed) end))
+    (omega (arith, few, ap (λ (x : Tally). x .closed) end))
 
 pub count-spec : {M : Type 1} → statement M
 count-spec =
@@ -124,6 +133,7 @@ count-spec =
     (tie.spec
     Inv-loop
     μ-loop
+    returns
     loop-holds
     shared-slice-read-v
     count-byte-requires
@@ -135,4 +145,4 @@ count-spec =
     count-byte-requires-2
     cast-count-byte-2
     count-byte-requires-3
-    returns)
+    returns-2)

@@ -1,13 +1,13 @@
--- `tally::each_bit` meets its contract: the bits left make of the present tally what all eight make of the first. Assumes nothing.
+-- `counting::each_bit` meets its contract: the bits left make of the present tally what all eight make of the first. Assumes nothing.
 use native.Mathlib.Omega.{arith}
 use mathlib.Core.Path.{_≡_, refl, sym, _∙_}
 use Prim.Native.Nat.{_+_, _-_, _/_, _≤_, _<_}
 use Rattle.line.specs.Bits.{odd, lowBits}
 use Rattle.line.specs.Laws.Bits.{low-step, low-none}
 use Rattle.tally.specs.Tally.{tally, tallied}
-use Rattle.tally.proofs.Laws.{tallied-none, tallied-bit, bit-runs}
-use Rattle.tally.proofs.each_bit.Statement.{statement}
-use Rattle.tally.proofs.each_bit.Tie as tie
+use Rattle.tally.specs.Laws.{tallied-none, tallied-bit, bit-runs}
+use Rattle.counting.proofs.each_bit.Statement.{statement}
+use Rattle.counting.proofs.each_bit.Tie as tie
 
 abbrev Inv-loop : tie.InvT-loop
 Inv-loop v ones₀ closed₀ rest₀ left₀ ones closed rest left =

@@ -1,7 +1,7 @@
--- `tally::ones_after` meets its contract: each return by the facts on its way. Assumes nothing.
+-- `counting::ones_after` meets its contract: each return by the facts on its way. Assumes nothing.
 use borrow.Author.Needs.{needs}
-use Rattle.tally.proofs.ones_after.Statement.{statement}
-use Rattle.tally.proofs.ones_after.Tie as tie
+use Rattle.counting.proofs.ones_after.Statement.{statement}
+use Rattle.counting.proofs.ones_after.Tie as tie
 
 add-result : tie.Need-add-result
 add-result c = search needs

@@ -1,11 +1,11 @@
--- `tally::count_byte` meets its contract: a byte that closes no five leaves the ones at its top. Assumes nothing.
+-- `counting::count_byte` meets its contract: a byte that closes no five leaves the ones at its top. Assumes nothing.
 use native.Mathlib.Omega.{arith}
 use borrow.Author.Tests.{ne-eqb}
 use borrow.Author.Needs.{needs}
 use Prim.Native.Nat.{_/_, _%_}
-use Rattle.tally.proofs.Laws.{top-few, calm-tallied}
-use Rattle.tally.proofs.count_byte.Statement.{statement}
-use Rattle.tally.proofs.count_byte.Tie as tie
+use Rattle.tally.specs.Laws.{top-few, calm-tallied}
+use Rattle.counting.proofs.count_byte.Statement.{statement}
+use Rattle.counting.proofs.count_byte.Tie as tie
 
 sub-run : tie.Need-sub-run
 sub-run c = search needs

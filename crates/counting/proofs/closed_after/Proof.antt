@@ -1,8 +1,8 @@
--- `tally::closed_after` meets its contract: each return by the facts on its way. Assumes nothing.
-use Rattle.tally.proofs.Branch.{tests}
+-- `counting::closed_after` meets its contract: each return by the facts on its way. Assumes nothing.
+use Rattle.counting.proofs.Branch.{tests}
 use borrow.Author.Needs.{needs}
-use Rattle.tally.proofs.closed_after.Statement.{statement}
-use Rattle.tally.proofs.closed_after.Tie as tie
+use Rattle.counting.proofs.closed_after.Statement.{statement}
+use Rattle.counting.proofs.closed_after.Tie as tie
 
 add-if1 : tie.Need-add-if1
 add-if1 c = search needs
