@@ -44,8 +44,8 @@ fn each_bit(t: Tally, v: u8) -> Tally
     Tally { ones, closed }
 }
 
-// A byte of content counted. Five ones in a row within a byte have both bits in its middle, and its low ones count on from a run; a byte with
-// neither closes no five, and leaves the ones at its top.
+// A byte of content counted. Five ones in a row within a byte have both bits in its middle, and its
+// low ones count on from a run; a byte with neither closes no five, and leaves the ones at its top.
 fn count_byte(t: Tally, v: u8) -> Tally
     requires { ⌜ Running t ⌝ }
     ensures { λ r. ⌜ r ≡ tallied t (lowBits 8 v) ⌝ }
@@ -63,8 +63,9 @@ fn count_byte(t: Tally, v: u8) -> Tally
     each_bit(t, v)
 }
 
-// The zeros inserted into a note's frame, counted as its bytes go by: behind them the check, complemented, x^15 first, which is the mirrored
-// register's lowest. 0 for a note that is too long to have a frame.
+// The zeros inserted into a note's frame, counted as its bytes go by: behind them the check,
+// complemented, x^15 first, which is the mirrored register's lowest. 0 for a note that is too long
+// to have a frame.
 pub fn count(note: &[u8]) -> usize
     ensures { λ r. ⌜ r ≡ zerosIn (now (note .entry)) ⌝ }
 {

@@ -1,8 +1,10 @@
-// Ones counted in fives: a tally. What bits and bytes of content make of it stands in specs/. Assumes nothing.
+// Ones counted in fives: a tally. What bits and bytes of content make of it stands in specs/.
+// Assumes nothing.
 ghost use mathlib.Core.Path.{_≡_};
 ghost use Rattle.tally.specs.Tally.{topOnes};
 
-// Behind each five that is closed a zero is inserted, and the ones beyond the closed fives are the run.
+// Behind each five that is closed a zero is inserted, and the ones beyond the closed fives are the
+// run.
 pub struct Tally {
     pub ones: usize,
     pub closed: usize,

@@ -1,4 +1,5 @@
--- `counting::closed_after` meets its contract: each return by the facts on its way. Assumes nothing.
+-- `counting::closed_after` meets its contract: each return by the facts on its way. Assumes
+-- nothing.
 use Rattle.counting.proofs.Branch.{tests}
 use borrow.Author.Needs.{needs}
 use Rattle.counting.proofs.closed_after.Statement.{statement}

@@ -1,5 +1,5 @@
--- `counting::count` meets its contract: the bytes that remain, the check's two among them, make of the present tally what the content makes of none.
--- Assumes nothing.
+-- `counting::count` meets its contract: the bytes that remain, the check's two among them, make of
+-- the present tally what the content makes of none. Assumes nothing.
 use native.Mathlib.Omega.{arith}
 use mathlib.Core.Path.{_≡_, sym, ap, _∙_}
 use mathlib.Core.Bool.{Bool}
@@ -62,7 +62,8 @@ count-byte-requires c κs =
     let l = c .before .before .loop in
     let s = c .before .before .before in
     let note = now (s .before .before .args .note) in
-    let n = few note (l .t) (textBits 8 (remaining note (l .i) (l .m))) (s .if1 .left) (l .inv .0) in
+    let rest = textBits 8 (remaining note (l .i) (l .m)) in
+    let n = few note (l .t) rest (s .if1 .left) (l .inv .0) in
     (omega (arith, l .inv .1 .0), (omega (arith, l .inv .1 .1 .0), omega (arith, l .inv .1 .1 .0)))
 
 mirrored-byte-requires : tie.Need-mirrored-byte-requires Inv-loop μ-loop
@@ -94,7 +95,8 @@ count-byte-requires-2 c κs =
     let l = c .before .loop in
     let s = c .before .before in
     let note = now (s .before .before .args .note) in
-    let n = few note (l .t) (textBits 8 (remaining note (l .i) (l .m))) (s .if1 .left) (l .inv .0) in
+    let rest = textBits 8 (remaining note (l .i) (l .m)) in
+    let n = few note (l .t) rest (s .if1 .left) (l .inv .0) in
     (omega (arith, l .inv .1 .0), (omega (arith, l .inv .1 .1 .0), omega (arith, l .inv .1 .1 .0)))
 
 cast-count-byte-2 : tie.Need-cast-count-byte-2 Inv-loop μ-loop

@@ -1,4 +1,5 @@
--- `counting::count_byte` meets its contract: a byte that closes no five leaves the ones at its top. Assumes nothing.
+-- `counting::count_byte` meets its contract: a byte that closes no five leaves the ones at its top.
+-- Assumes nothing.
 use native.Mathlib.Omega.{arith}
 use borrow.Author.Tests.{ne-eqb}
 use borrow.Author.Needs.{needs}

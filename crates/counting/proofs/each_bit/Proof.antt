@@ -1,4 +1,5 @@
--- `counting::each_bit` meets its contract: the bits left make of the present tally what all eight make of the first. Assumes nothing.
+-- `counting::each_bit` meets its contract: the bits left make of the present tally what all eight
+-- make of the first. Assumes nothing.
 use native.Mathlib.Omega.{arith}
 use mathlib.Core.Path.{_≡_, refl, sym, _∙_}
 use Prim.Native.Nat.{_+_, _-_, _/_, _≤_, _<_}
