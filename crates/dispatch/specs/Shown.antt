@@ -16,7 +16,7 @@ use Rattle.chip.specs.Chip.{transmitCall}
 use Rattle.chip.specs.Event.{Transmit}
 use Rattle.stories.specs.Story.{Which, A, B, number, chan, happens}
 use Rattle.stories.specs.Sent.{lineOf}
-use Rattle.sending.specs.Shown.{unlatched-shows, tick-shown, shows-read}
+use Rattle.shown.specs.Shown.{unlatched-shows, tick-shown, shows-read}
 use Rattle.dispatch.specs.Side.{SenderSide, sideOf}
 use Rattle.dispatch.specs.Events.{tickedOf, tick-side, tick-bit}
 use Rattle.dispatch.specs.Statement.{RunsDry, LatchShown}

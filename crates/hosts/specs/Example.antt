@@ -4,23 +4,19 @@
 use mathlib.Core.Path.{_≡_, refl}
 use mathlib.Core.Bool.{true, false}
 use mathlib.Core.List.{List, [], _∷_, _++_}
-use Rattle.line.specs.Bits.{lowBits, textBits}
-use Rattle.line.specs.Check.{checkStep, checkOver, topBits, checkBits}
-use Rattle.line.specs.Insertion.{stuff, zeros}
 use Rattle.line.specs.Frame.{frame}
 use Rattle.chip.specs.Computing.{computing}
 use Rattle.chip.specs.Event.{Event, DataWrite, Transmit}
 use Rattle.whole.specs.Start.{flagHead}
 use Rattle.stories.specs.Story.{A, happens, after}
-use Rattle.stories.specs.Sent.{lineOf, ticks}
-use Rattle.stories.specs.Sending.{times, tick, begin, noisy, dry, late, whole, choosing}
-use Rattle.timely.specs.Tests.{timely, in-time}
+use Rattle.stories.specs.Sent.{lineOf}
+use Rattle.stories.specs.Sending.{times, tick, begin, dry, late, whole, choosing}
+use Rattle.timely.specs.Tests.{timely}
 use Rattle.sending.specs.Example as sending
 use Rattle.hosts.specs.Loaded.{loaded, passed, flags, closed}
-use Rattle.hosts.specs.Statement.{Punctual, Shortened}
+use Rattle.hosts.specs.Statement.{Shortened}
 use Rattle.hosts.specs.Tests.{hosting, host-of}
 use Rattle.hosts.specs.Line.{every-host}
-use Rattle.hosts.specs.Punctual.{in-time-loads}
 use Rattle.hosts.specs.Late.{incident-told}
 
 -- 1F owes a zero behind its five ones, so it lasts nine ticks: the next byte comes behind the
@@ -101,12 +97,6 @@ idle-sent =
     rw (examples .idle-loaded, examples .idle-passed) at
     (every-host A begin 3 idle sending.starts (host-of A begin idle (examples .idle-hosted)) .whole
     (examples .idle-closed))
-
-noisy-punctual : Punctual A begin noisy (255 ∷ 136 ∷ [])
-unfolding ticks times stuff zeros textBits lowBits checkOver checkStep checkBits topBits
-noisy-punctual =
-    in-time-loads A begin 3 255 (136 ∷ []) noisy sending.starts
-    (in-time A begin 2 (255 ∷ 136 ∷ []) noisy (sending.examples .noisy-timely)) refl
 
 -- two bytes were meant and one went out
 late-short : Shortened A begin 3 (0 ∷ 0 ∷ []) dry late

@@ -2,7 +2,6 @@ pub mod Loaded
 pub mod Steps
 pub mod Statement
 pub mod Line
-pub mod Punctual
 pub mod Late
 pub mod Tests
 pub mod Example

@@ -1,13 +1,13 @@
 -- Demand 3 of every host, not only of the punctual one: whatever it ticks and writes and whenever,
--- the line is the frame of the bytes loaded. Proofs: Line, Punctual, Late. Assumes nothing.
+-- the line is the frame of the bytes loaded. Proofs: Line, Late. Assumes nothing.
 use mathlib.Core.Path.{_≡_}
 use mathlib.Core.Logic.{_≢_}
 use mathlib.Core.Bool.{true, false}
 use mathlib.Core.List.{List, [], _∷_, _++_}
-use Prim.Native.Nat.{ℕ, _+_, _-_, _*_, _≤_, _<_}
+use Prim.Native.Nat.{ℕ, _+_, _*_, _≤_, _<_}
 use lib.ListN.{length, take}
 use Rattle.line.specs.Bits.{Below}
-use Rattle.line.specs.Frame.{frame, zerosOf}
+use Rattle.line.specs.Frame.{frame}
 use Rattle.sdlc.specs.Sending.{aborting}
 use Rattle.chip.specs.declared.Chip.{Chip}
 use Rattle.chip.specs.Event.{Event, Transmit}
@@ -16,7 +16,6 @@ use Rattle.stories.specs.Story.{Which, number, chan, happens, after}
 use Rattle.stories.specs.Sent.{lineOf, ticks, d6}
 use Rattle.history.specs.Sending.Side.{good, sideOf}
 use Rattle.timely.specs.Start.{Start}
-use Rattle.timely.specs.InTime.{InTime}
 use Rattle.timely.specs.Free.{Free}
 use Rattle.sending.specs.Statement.{RunsDry, statusLatched}
 use Rattle.hosts.specs.Loaded.{loaded, passed, flags, closed, Host}
@@ -52,19 +51,6 @@ pub record Front (w : Which) (c : Chip) (st : List Event) : Type 0 where
 
 abbrev pub HostFront : Type 0
 HostFront = (w : Which) (c : Chip) (st : List Event) → Free w c st → Front w c st
-
--- In time: what is loaded is what was written, and no flag passes. The eight-tick rule is one way
--- to be so
-pub record Punctual (w : Which) (c : Chip) (st : List Event) (note : List ℕ) : Type 0 where
-  pub host : Host w c st
-  pub bytes : loaded w c st ≡ note
-  pub none : passed w c st ≡ 0
-  pub ended : closed w (after c st) ≡ true
-
-abbrev pub InTimeLoads : Type 0
-InTimeLoads = (w : Which) (c : Chip) (p v : ℕ) (vs : List ℕ) (st : List Event) → Start w c p
-    → InTime w [] c (p - 1) (v ∷ vs) st
-    → p + ticks w st ≡ 8 * (length (v ∷ vs) + 2) + 16 + zerosOf (v ∷ vs) → Punctual w c st (v ∷ vs)
 
 -- "If the buffer is empty at the first tick after a byte and any owed zero, the frame holds just
 -- the bytes loaded so far": the line runs dry behind the story xs of any host, and the host does as

@@ -1,7 +1,6 @@
 pub mod Statement
 pub mod Frame
 pub mod Chain
-pub mod Shown
 pub mod Underrun
 pub mod Unclosed
 pub mod Tests

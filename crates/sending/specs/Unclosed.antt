@@ -27,7 +27,7 @@ use Rattle.timely.specs.Start.{Start, start-side}
 use Rattle.sending.specs.Statement.{Watched, FrameSeen}
 use Rattle.history.specs.Sending.Events.{tickedOf, tick-side, tick-bit, write-side, write-no-tick}
 use Rattle.history.specs.Sending.Events.{skip-line}
-use Rattle.sending.specs.Shown.{shows-read}
+use Rattle.shown.specs.Shown.{shows-read}
 use Rattle.sending.specs.Underrun.{heedsOf, tick-heeds, write-heeds, tick-latch, write-latch}
 use Rattle.sending.specs.Underrun.{Seen, watched-seen, shown}
 use Rattle.whole.specs.Come as come

@@ -30,8 +30,8 @@ use Rattle.sending.specs.Statement.{UnderrunSeen, ResetShows, Watched, N
 use Rattle.sending.specs.Statement.{NeverUnseen}
 use Rattle.history.specs.Sending.Events.{tickedOf, tick-side, write-side}
 use Rattle.sending.specs.Frame.{demand3}
-use Rattle.sending.specs.Shown.{d6-read, Shows, shows-read, unlatched-shows, tick-shown}
-use Rattle.sending.specs.Shown.{event-shown, reset-seen}
+use Rattle.shown.specs.Shown.{d6-read, Shows, shows-read, unlatched-shows, tick-shown}
+use Rattle.shown.specs.Shown.{event-shown, reset-seen}
 use Rattle.whole.specs.Come as come
 use Rattle.timely.specs.Free as hosts
 use Rattle.sending.specs.Statement as stated

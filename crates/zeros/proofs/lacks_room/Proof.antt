@@ -8,6 +8,7 @@ use denote.Ref.{now}
 use Rattle.line.specs.Frame.{ticksOf}
 use Rattle.line.specs.Laws.Frame.{ticks-are, zeros-few}
 use Rattle.line.specs.Laws.Line.{fits-few}
+use Rattle.counting.specs.Counting.{zerosIn-few}
 use Rattle.zeros.specs.Zeros.{lineTicks}
 use borrow.Author.Needs.{needs}
 use Rattle.zeros.proofs.lacks_room.Statement.{statement}
@@ -53,22 +54,24 @@ add-result c =
     omega arith
 
 count-requires : tie.Need-count-requires
-count-requires c κs = fits-few _ (sym (c .before .before .note-fits .ensures) ∙ c .before .if1 .taken) .1
+count-requires c κs = search needs
 
 add-result-2 : tie.Need-add-result-2
 add-result-2 c =
     let b = c .before .before .before in
     let note = now (b .before .before .args .note) in
     let f = fits-few (length note) (sym (b .note-fits .ensures) ∙ c .before .before .if1 .taken) in
-    omega (arith, c .count .ensures, zeros-few note)
+    omega (arith, c .count .ensures, zerosIn-few note (f .1), zeros-few note)
 
 returns-2 : tie.Need-returns-2
 unfolding lineTicks
 returns-2 c =
     let b = c .before .before .before in
     let a = b .before .before .args in
+    let note = now (a .note) in
+    let f = fits-few (length note) (sym (b .note-fits .ensures) ∙ c .before .before .if1 .taken) in
     rw (← b .note-fits .ensures, c .before .before .if1 .taken)
-    (ap (ltb (a .room)) (omega (arith, c .count .ensures, ticks-are (now (a .note)))))
+    (ap (ltb (a .room)) (omega (arith, c .count .ensures, zerosIn-few note (f .1), ticks-are note)))
 
 returns-3 : tie.Need-returns-3
 unfolding lineTicks

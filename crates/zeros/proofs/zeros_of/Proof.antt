@@ -2,6 +2,7 @@
 use mathlib.Core.Path.{_∙_, sym, ap}
 use Rattle.zeros.specs.Zeros.{countOf}
 use Rattle.line.specs.Laws.Line.{fits-few}
+use Rattle.counting.specs.Counting.{zerosIn-few}
 use Rattle.zeros.specs.declared.Counted.the-variants.{Zeros}
 use borrow.Author.Needs.{needs}
 use Rattle.zeros.proofs.zeros_of.Statement.{statement}
@@ -11,11 +12,13 @@ note-fits-requires : tie.Need-note-fits-requires
 note-fits-requires c κs = search needs
 
 count-requires : tie.Need-count-requires
-count-requires c κs = fits-few _ (sym (c .before .note-fits .ensures) ∙ c .if1 .taken) .1
+count-requires c κs = search needs
 
 returns : tie.Need-returns
 unfolding countOf
-returns c = simp (← c .before .before .note-fits .ensures, c .before .if1 .taken) (ap Zeros (c .count .ensures))
+returns c =
+    let fits = sym (c .before .before .note-fits .ensures) ∙ c .before .if1 .taken in
+    rw fits (ap Zeros (c .count .ensures ∙ zerosIn-few _ (fits-few _ fits .1)))
 
 returns-2 : tie.Need-returns-2
 unfolding countOf
