@@ -1,12 +1,12 @@
 // A byte of content put down at once, by tables that are lent, whatever they hold. Where there is no room, nothing is put down. Assumes nothing.
 use imprint::lacks_cells;
-use imprint::put_twelve;
 ghost use mathlib.Core.Path.{_≡_};
 ghost use mathlib.Core.Bool.{_&&_};
 ghost use Prim.Native.Nat.{_+_, _≤_, _<_};
 ghost use lib.Dec.{leb};
 ghost use lib.ListN.{length};
-ghost use Rattle.imprint.specs.Imprint.{twelveBy};
+ghost use lib.Seq.{sets};
+ghost use Rattle.imprint.specs.Imprint.{fourBy, twelveBy};
 ghost use Rattle.bytewise.specs.Bytewise.{plate, behind, stampFor, byteStamped, twoStamped};
 
 // Where the next byte goes, and the row of the stamps for it: 256 for each of the ones in a row before it.
@@ -32,6 +32,31 @@ fn size(x: u16) -> usize
     ensures { λ r. ⌜ r < 65536 ⌝ }
 {
     x as usize
+}
+
+// Four cells at once.
+fn put_four(out: &mut [u8], fours: &[u32; 16], at: usize, n: usize)
+    requires { ⌜ n < 16 ⌝ }
+    requires { ⌜ at + 4 ≤ length (now out) ⌝ }
+    ensures { λ r. ⌜ now (out .exit)
+        ≡ sets (now (out .entry)) at (fourBy (now (fours .entry)) n) ⌝ }
+{
+    let x = fours[n];
+    out[at] = (x % 256) as u8;
+    out[at + 1] = (x / 256 % 256) as u8;
+    out[at + 2] = (x / 65536 % 256) as u8;
+    out[at + 3] = (x / 16777216 % 256) as u8;
+}
+
+// A stamp's twelve cells, in three stores, whatever of them counts: what follows is stored over the
+// rest.
+fn put_twelve(out: &mut [u8], fours: &[u32; 16], at: usize, e: u16)
+    requires { ⌜ at + 12 ≤ length (now out) ⌝ }
+    ensures { λ r. ⌜ now (out .exit) ≡ twelveBy (now (fours .entry)) (now (out .entry)) at e ⌝ }
+{
+    put_four(out, fours, at, size(e % 16));
+    put_four(out, fours, at + 4, size(e / 16 % 16));
+    put_four(out, fours, at + 8, size(e / 2048 % 4));
 }
 
 // The stamp of a byte in a row that the table has. The byte's place is taken first, since the row
@@ -94,7 +119,7 @@ pub fn two_fit(len: usize, p: Press) -> bool
 }
 
 // Two bytes of content with their inserted zeros, where they fit.
-pub fn put_two(
+fn put_fitting(
     out: &mut [u8],
     stamps: &[u16; 1280],
     fours: &[u32; 16],
@@ -115,4 +140,25 @@ pub fn put_two(
     let next = q.at;
     let f = stamp_for(stamps, q.row, w);
     put_stamp(out, fours, next, f)
+}
+
+// Two bytes of content with their inserted zeros. Where they fit, one test serves both.
+pub fn put_two(
+    out: &mut [u8],
+    stamps: &[u16; 1280],
+    fours: &[u32; 16],
+    p: Press,
+    v: u8,
+    w: u8,
+) -> Press
+    ensures { λ r. ⌜ r ≡ twoStamped (now (stamps .entry)) (now (fours .entry))
+        (plate (now (out .entry)) p) v w .press ⌝ }
+    ensures { λ r. ⌜ now (out .exit) ≡ twoStamped (now (stamps .entry)) (now (fours .entry))
+        (plate (now (out .entry)) p) v w .buffer ⌝ }
+{
+    if two_fit(out.len(), p) {
+        return put_fitting(out, stamps, fours, p, v, w);
+    }
+    let q = put_byte(out, stamps, fours, p, v);
+    put_byte(out, stamps, fours, q, w)
 }

@@ -4,12 +4,12 @@ use native.Mathlib.Omega.{arith}
 use mathlib.Core.Path.{_≡_, refl, sym, ap, _∙_}
 use mathlib.Core.Bool.{Bool, true, _&&_}
 use borrow.Author.Needs.{needs}
-use borrow.Author.Tests.{leb-true, ltb-true}
+use borrow.Author.Tests.{ltb-true}
 use Prim.Native.Nat.{ℕ, _+_, _-_, _≤_, _<_}
-use lib.Dec.{leb, ltb}
+use lib.Dec.{ltb}
 use lib.ListN.{length, drop}
 use denote.Ref.{now}
-use Rattle.common.specs.Tools.{both-left, both-right}
+use Rattle.common.specs.Tools.{both-left}
 use Rattle.line.specs.Check.{ones}
 use Rattle.lookup.specs.Lookup.{withLookup}
 use Rattle.lookup.specs.Laws.{lookup-step, lookup-two, lookup-none}
@@ -18,20 +18,11 @@ use Rattle.tabled.specs.Tabled.{bytesStamped, contentStamped}
 use Rattle.tabled.proofs.put_content.Statement.{statement}
 use Rattle.tabled.proofs.put_content.Tie as tie
 
--- what the first loop's test says: there are two bytes more, and they fit
+-- what the first loop's test says: there are two bytes more
 more : (n i : ℕ) (fit : Bool) → ltb 1 (n - i) && fit ≡ true → i + 1 < n
 more n i fit e =
     let h = ltb-true 1 (n - i) (both-left (ltb 1 (n - i)) fit e) in
     omega (arith, h)
-
-fitting : (n i at row len : ℕ) (fit : Bool) → ltb 1 (n - i) && fit ≡ true
-    → fit ≡ leb (at + 27) len && leb row 1024
-    → (at + 27 ≤ len) × (row ≤ 1024)
-fitting n i at row len fit e told =
-    let both = sym told ∙ both-right (ltb 1 (n - i)) fit e in (
-      leb-true (at + 27) len (both-left (leb (at + 27) len) (leb row 1024) both),
-      leb-true row 1024 (both-right (leb (at + 27) len) (leb row 1024) both),
-    )
 
 abbrev Inv-loop : tie.InvT-loop
 Inv-loop out₀ note checks stamps fours q₀ m₀ i₀ out q m i =
@@ -86,13 +77,7 @@ shared-slice-read-w c =
     omega (arith, two)
 
 put-two-requires : tie.Need-put-two-requires Inv-loop μ-loop Inv-loop2 μ-loop2
-put-two-requires c κs =
-    let b = c .before .before .before in
-    let l = b .before .before .loop in
-    let a = b .before .before .before .before .before .args in
-    let fit = b .before .two-fit in
-    fitting (length (now (a .note))) (l .i) (l .q .at) (l .q .row) (length (l .out)) (fit .result)
-    (b .if1 .taken) (fit .ensures)
+put-two-requires c κs = search needs
 
 looked-up-requires : tie.Need-looked-up-requires Inv-loop μ-loop Inv-loop2 μ-loop2
 looked-up-requires c κs = search needs

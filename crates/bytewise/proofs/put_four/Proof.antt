@@ -1,11 +1,11 @@
--- `imprint::put_four` meets its contract: four stores in a row. Assumes nothing.
+-- `bytewise::put_four` meets its contract: four stores in a row. Assumes nothing.
 use native.Mathlib.Omega.{arith}
 use lib.ListN.{length-set, getD}
 use denote.Ref.{now}
-use Rattle.imprint.proofs.Stores.{four-stores}
+use Rattle.bytewise.proofs.Stores.{four-stores}
 use borrow.Author.Needs.{needs}
-use Rattle.imprint.proofs.put_four.Statement.{statement}
-use Rattle.imprint.proofs.put_four.Tie as tie
+use Rattle.bytewise.proofs.put_four.Statement.{statement}
+use Rattle.bytewise.proofs.put_four.Tie as tie
 
 mul-x : tie.Need-mul-x
 mul-x c = search needs

@@ -1,7 +1,7 @@
--- `imprint::put_twelve` meets its contract: three stores of four cells. Assumes nothing.
+-- `bytewise::put_twelve` meets its contract: three stores of four cells. Assumes nothing.
 use borrow.Author.Needs.{needs}
-use Rattle.imprint.proofs.put_twelve.Statement.{statement}
-use Rattle.imprint.proofs.put_twelve.Tie as tie
+use Rattle.bytewise.proofs.put_twelve.Statement.{statement}
+use Rattle.bytewise.proofs.put_twelve.Tie as tie
 
 size-requires : tie.Need-size-requires
 size-requires c κs = search needs
@@ -37,11 +37,11 @@ returns c =
     let first = second .before .before .before .before .before in
     rw (
       third .put-four3 .ensures,
-      third .before .size3 .ensures,
+      third .before .size3 .ensures .0,
       second .put-four2 .ensures,
-      second .before .size2 .ensures,
+      second .before .size2 .ensures .0,
       first .put-four .ensures,
-      first .before .size .ensures,
+      first .before .size .ensures .0,
     )
 
 pub put-twelve-spec : {M : Type 1} → statement M
