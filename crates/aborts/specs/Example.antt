@@ -91,9 +91,36 @@ pub record Examples : Type 0 where
 pub examples : Examples
 unfolding computing hosting freely attending hearAll bitsOf story times lineOf after loaded passed
 examples = record {
-  amid = record { hosted = refl; before = refl; to-wr0 = refl; runs = refl; attends = refl; first-bits = refl; rest-bits = refl; none-waits = refl };
-  in-flag = record { hosted = refl; before = refl; to-wr0 = refl; runs = refl; attends = refl; first-bits = refl; rest-bits = refl; none-waits = refl };
-  overflows = record { hosted = refl; before = refl; to-wr0 = refl; runs = refl; attends = refl; first-bits = refl; rest-bits = refl; none-waits = refl };
+  amid = record {
+    hosted = refl;
+    before = refl;
+    to-wr0 = refl;
+    runs = refl;
+    attends = refl;
+    first-bits = refl;
+    rest-bits = refl;
+    none-waits = refl;
+  };
+  in-flag = record {
+    hosted = refl;
+    before = refl;
+    to-wr0 = refl;
+    runs = refl;
+    attends = refl;
+    first-bits = refl;
+    rest-bits = refl;
+    none-waits = refl;
+  };
+  overflows = record {
+    hosted = refl;
+    before = refl;
+    to-wr0 = refl;
+    runs = refl;
+    attends = refl;
+    first-bits = refl;
+    rest-bits = refl;
+    none-waits = refl;
+  };
   overran = refl;
   no-end = refl;
   an-end = refl;

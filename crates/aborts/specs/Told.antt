@@ -23,7 +23,7 @@ use Rattle.chip.specs.Event.{Event}
 use Rattle.whole.specs.Heard.{handed, hearAll, endMarks}
 use Rattle.whole.specs.Laws.Deaf.{end-marks-join}
 use Rattle.stories.specs.Story.{Which, chan, happens, after}
-use Rattle.stories.specs.Received.{Role, role, bitIn, bitsOf, taking, tookOf}
+use Rattle.stories.specs.Received.{ToReceiver, toReceiver, bitIn, bitsOf, taking, tookOf}
 use Rattle.history.specs.Receiving.Side.{Side, sideOf}
 use Rattle.history.specs.Receiving.Events.{queuedBy, heardSide, readSide, Follows, Hearing, follows}
 use Rattle.aborts.specs.Statement.{waitingIn, Attends, over, hears, reads, still, endsTold}
@@ -127,11 +127,11 @@ read-bound x bits = omega (arith, take-marks (x .queue))
 
 took-more : (u : Which) (r : Chip) (x : Event) (st : List Event)
     → endMarks (tookOf u r (x ∷ st))
-    ≡ endMarks (entryIf (taking u r (role u x)) (oldest (chan u r .queue))) + endMarks
+    ≡ endMarks (entryIf (taking u r (toReceiver u x)) (oldest (chan u r .queue))) + endMarks
     (tookOf u (happens r x .chip) st)
 unfolding tookOf
 took-more u r x st =
-    end-marks-join (entryIf (taking u r (role u x)) (oldest (chan u r .queue)))
+    end-marks-join (entryIf (taking u r (toReceiver u x)) (oldest (chan u r .queue)))
     (tookOf u (happens r x .chip) st)
 
 pub told-few : (u : Which) {r : Chip} {rs : List Event} → Attends u r rs
@@ -145,11 +145,11 @@ told-few u (hears {r = r} {e = x} {st = st} {b = b} p a) h =
     let i = told-few u a (subst Hearing (sym (ap (λ (y : Side). y .settings) f)) h) in
     let q : bound (sideOf u d) (bitsOf u st) ≡ bound (heardSide b (sideOf u r)) (bitsOf u st) =
     ap (λ (y : Side). bound y (bitsOf u st)) f in
-    let m : endMarks (entryIf (taking u r (role u x)) (oldest (chan u r .queue))) ≡ 0 =
-    ap (λ (y : Role). endMarks (entryIf (taking u r y) (oldest (chan u r .queue)))) p in
-    let s : bound (sideOf u r) (bitIn (role u x) ++ bitsOf u st)
+    let m : endMarks (entryIf (taking u r (toReceiver u x)) (oldest (chan u r .queue))) ≡ 0 =
+    ap (λ (y : ToReceiver). endMarks (entryIf (taking u r y) (oldest (chan u r .queue)))) p in
+    let s : bound (sideOf u r) (bitIn (toReceiver u x) ++ bitsOf u st)
     ≡ bound (sideOf u r) (b ∷ bitsOf u st) =
-    ap (λ (y : Role). bound (sideOf u r) (bitIn y ++ bitsOf u st)) p in
+    ap (λ (y : ToReceiver). bound (sideOf u r) (bitIn y ++ bitsOf u st)) p in
     omega (arith, i, q, m, s, took-more u r x st, hear-bound (sideOf u r) b (bitsOf u st))
 told-few u (reads {r = r} {e = x} {st = st} p a) h =
     let d = happens r x .chip in
@@ -157,23 +157,23 @@ told-few u (reads {r = r} {e = x} {st = st} p a) h =
     let i = told-few u a (subst Hearing (sym (ap (λ (y : Side). y .settings) f)) h) in
     let q : bound (sideOf u d) (bitsOf u st) ≡ bound (readSide (sideOf u r)) (bitsOf u st) =
     ap (λ (y : Side). bound y (bitsOf u st)) f in
-    let m : endMarks (entryIf (taking u r (role u x)) (oldest (chan u r .queue)))
+    let m : endMarks (entryIf (taking u r (toReceiver u x)) (oldest (chan u r .queue)))
     ≡ endMarks (entryIf (waits (chan u r .queue)) (oldest (chan u r .queue))) =
-    ap (λ (y : Role). endMarks (entryIf (taking u r y) (oldest (chan u r .queue)))) p in
-    let s : bound (sideOf u r) (bitIn (role u x) ++ bitsOf u st)
+    ap (λ (y : ToReceiver). endMarks (entryIf (taking u r y) (oldest (chan u r .queue)))) p in
+    let s : bound (sideOf u r) (bitIn (toReceiver u x) ++ bitsOf u st)
     ≡ bound (sideOf u r) (bitsOf u st) =
-    ap (λ (y : Role). bound (sideOf u r) (bitIn y ++ bitsOf u st)) p in
+    ap (λ (y : ToReceiver). bound (sideOf u r) (bitIn y ++ bitsOf u st)) p in
     omega (arith, i, q, m, s, took-more u r x st, read-bound (sideOf u r) (bitsOf u st))
 told-few u (still {r = r} {e = x} {st = st} p k a) h =
     let d = happens r x .chip in
     let i = told-few u a (subst Hearing (sym (ap (λ (y : Side). y .settings) k)) h) in
     let q : bound (sideOf u d) (bitsOf u st) ≡ bound (sideOf u r) (bitsOf u st) =
     ap (λ (y : Side). bound y (bitsOf u st)) k in
-    let m : endMarks (entryIf (taking u r (role u x)) (oldest (chan u r .queue))) ≡ 0 =
-    ap (λ (y : Role). endMarks (entryIf (taking u r y) (oldest (chan u r .queue)))) p in
-    let s : bound (sideOf u r) (bitIn (role u x) ++ bitsOf u st)
+    let m : endMarks (entryIf (taking u r (toReceiver u x)) (oldest (chan u r .queue))) ≡ 0 =
+    ap (λ (y : ToReceiver). endMarks (entryIf (taking u r y) (oldest (chan u r .queue)))) p in
+    let s : bound (sideOf u r) (bitIn (toReceiver u x) ++ bitsOf u st)
     ≡ bound (sideOf u r) (bitsOf u st) =
-    ap (λ (y : Role). bound (sideOf u r) (bitIn y ++ bitsOf u st)) p in
+    ap (λ (y : ToReceiver). bound (sideOf u r) (bitIn y ++ bitsOf u st)) p in
     omega (arith, i, q, m, s, took-more u r x st)
 
 -- where a story leaves what the receiver is
@@ -196,8 +196,8 @@ attends-front u {r} (x ∷ qs) (hears {b = b} p a) h =
             i .0 .listener
             ∙ ap (λ (y : Side). hearAll (y .settings .addressing) (y .listener)
             (bitsOf u qs) .listener) f
-            ∙ ap (λ (y : Role). hearAll (sideOf u r .settings .addressing) (sideOf u r .listener)
-            (bitIn y ++ bitsOf u qs) .listener) (sym p);
+            ∙ ap (λ (y : ToReceiver). hearAll (sideOf u r .settings .addressing)
+            (sideOf u r .listener) (bitIn y ++ bitsOf u qs) .listener) (sym p);
         settings = i .0 .settings ∙ ap (λ (y : Side). y .settings) f;
       },
       i .1,
@@ -211,8 +211,8 @@ attends-front u {r} (x ∷ qs) (reads p a) h =
             i .0 .listener
             ∙ ap (λ (y : Side). hearAll (y .settings .addressing) (y .listener)
             (bitsOf u qs) .listener) f
-            ∙ ap (λ (y : Role). hearAll (sideOf u r .settings .addressing) (sideOf u r .listener)
-            (bitIn y ++ bitsOf u qs) .listener) (sym p);
+            ∙ ap (λ (y : ToReceiver). hearAll (sideOf u r .settings .addressing)
+            (sideOf u r .listener) (bitIn y ++ bitsOf u qs) .listener) (sym p);
         settings = i .0 .settings ∙ ap (λ (y : Side). y .settings) f;
       },
       i .1,
@@ -224,8 +224,8 @@ attends-front u {r} (x ∷ qs) (still p k a) h =
             i .0 .listener
             ∙ ap (λ (y : Side). hearAll (y .settings .addressing) (y .listener)
             (bitsOf u qs) .listener) k
-            ∙ ap (λ (y : Role). hearAll (sideOf u r .settings .addressing) (sideOf u r .listener)
-            (bitIn y ++ bitsOf u qs) .listener) (sym p);
+            ∙ ap (λ (y : ToReceiver). hearAll (sideOf u r .settings .addressing)
+            (sideOf u r .listener) (bitIn y ++ bitsOf u qs) .listener) (sym p);
         settings = i .0 .settings ∙ ap (λ (y : Side). y .settings) k;
       },
       i .1,

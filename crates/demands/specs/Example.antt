@@ -41,7 +41,14 @@ pub record Examples : Type 0 where
 pub examples : Examples
 unfolding computing inRoom bitsOf story times lineOf after
 examples = record {
-  listens = record { mode = refl; on = refl; search = refl; empty = refl; three = refl; start = in-hunt refl };
+  listens = record {
+    mode = refl;
+    on = refl;
+    search = refl;
+    empty = refl;
+    three = refl;
+    start = in-hunt refl;
+  };
   room = refl;
   bits = refl;
 }

@@ -19,7 +19,7 @@ use Rattle.whole.specs.Laws.Heard.{before-join}
 use Rattle.chip.specs.declared.Chip.{Chip}
 use Rattle.chip.specs.Event.{Event}
 use Rattle.stories.specs.Story.{Which, chan, happens, after}
-use Rattle.stories.specs.Received.{Role, bitIn, bitsOf, isRead, taking, tookOf}
+use Rattle.stories.specs.Received.{ToReceiver, bitIn, bitsOf, isRead, taking, tookOf}
 use Rattle.history.specs.Receiving.Side.{Heeded, Side, side, sideOf}
 use Rattle.receiving.specs.Statement.{roomFor, Fed, over, hears, reads, still}
 use Rattle.history.specs.Receiving.Events.{queuedBy, heardSide, readSide, Follows, Hearing, follows}
@@ -61,10 +61,10 @@ conserved w (still {c = c} {e = x} {st = st} r k i) s q g es d e h =
       there = m .there;
       holds = m .holds;
       whole = λ rest.
-          ap (λ (r : Role). before es
+          ap (λ (r : ToReceiver). before es
           (hearAll (g .addressing) s ((bitIn r ++ bitsOf w st) ++ rest))) r
           ∙ m .whole rest
-          ∙ ap (λ (r : Role). before
+          ∙ ap (λ (r : ToReceiver). before
           ((entryIf (taking w c r) (oldest (chan w c .queue)) ++ tookOf w (happens c x .chip) st)
           ++ m .waiting) (hearAll (g .addressing) (m .last) rest)) (sym r);
     }
@@ -83,7 +83,7 @@ conserved w (reads {c = c} {e = x} {st = st} r i) s q g es d e h =
       there = m .there;
       holds = m .holds;
       whole = λ rest.
-          ap (λ (r : Role). before es
+          ap (λ (r : ToReceiver). before es
           (hearAll (g .addressing) s ((bitIn r ++ bitsOf w st) ++ rest))) r
           ∙ ap (λ (l : List Entry). before l (hearAll (g .addressing) s (bitsOf w st ++ rest)))
           (t .split)
@@ -92,7 +92,7 @@ conserved w (reads {c = c} {e = x} {st = st} r i) s q g es d e h =
           ∙ before-join n (more ++ m .waiting) (hearAll (g .addressing) (m .last) rest)
           ∙ ap (λ (l : List Entry). before l (hearAll (g .addressing) (m .last) rest))
           (sym (append-assoc n more (m .waiting)))
-          ∙ ap₂ (λ (r : Role) (y : Side). before
+          ∙ ap₂ (λ (r : ToReceiver) (y : Side). before
           ((entryIf (isRead r && waits (y .queue)) (oldest (y .queue)) ++ more) ++ m .waiting)
           (hearAll (g .addressing) (m .last) rest))
           (sym r) (sym e);
@@ -115,11 +115,11 @@ conserved w (hears {c = c} {e = x} {st = st} {b = b} r k i) s q g es d e h =
       there = m .there;
       holds = m .holds;
       whole = λ rest.
-          ap (λ (r : Role). before es
+          ap (λ (r : ToReceiver). before es
           (hearAll (g .addressing) s ((bitIn r ++ bitsOf w st) ++ rest))) r
           ∙ before-join es (handed H) (hearAll (g .addressing) (H .listener) (bitsOf w st ++ rest))
           ∙ m .whole rest
-          ∙ ap (λ (r : Role). before
+          ∙ ap (λ (r : ToReceiver). before
           ((entryIf (taking w c r) (oldest (chan w c .queue)) ++ tookOf w (happens c x .chip) st)
           ++ m .waiting) (hearAll (g .addressing) (m .last) rest)) (sym r);
     }

@@ -72,7 +72,14 @@ pub record Examples : Type 0 where
 pub examples : Examples
 unfolding computing inRoom bitsOf valuesOf framesOf story checkBytes after
 examples = record {
-  listens = record { mode = refl; on = refl; search = refl; empty = refl; three = refl; start = in-hunt refl };
+  listens = record {
+    mode = refl;
+    on = refl;
+    search = refl;
+    empty = refl;
+    three = refl;
+    start = in-hunt refl;
+  };
   room = refl;
   check = refl;
   all-read = refl;

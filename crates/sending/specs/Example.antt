@@ -89,7 +89,14 @@ examples = record {
   touched = refl;
   cleared = refl;
   dry-timely = refl;
-  runs-dry = record { last = 0; byte = refl; paid = refl; empty = refl; cleared = refl; settings = record { sdlc-mode = refl; on = refl; included = refl; no-break = refl } };
+  runs-dry = record {
+    last = 0;
+    byte = refl;
+    paid = refl;
+    empty = refl;
+    cleared = refl;
+    settings = record { sdlc-mode = refl; on = refl; included = refl; no-break = refl };
+  };
   unlatched = refl;
   at-wr0 = (refl, refl);
   late-free = refl;

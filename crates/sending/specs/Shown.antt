@@ -213,7 +213,9 @@ tick-shown B c h = settled-shown (c .b) _ h
 pub event-shown : (w : Which) (c : Chip) (e : Event) → latchOf w c ≡ true → Shows (chan w c .status)
     → latchOf w (happens c e .chip) ≡ true
     → Shows (chan w (happens c e .chip) .status)
-unfolding controlWrite controlWriteA controlReadCall dataWriteCall dataReadCall dataRead transmitCall transmitTick receiveCall receiveTick linesCall linesSet acknowledge reti
+unfolding
+    controlWrite controlWriteA controlReadCall dataWriteCall dataReadCall dataRead
+    transmitCall transmitTick receiveCall receiveTick linesCall linesSet acknowledge reti
 event-shown A c HardReset l h = λ z e. void e
 event-shown B c HardReset l h = λ z e. void e
 event-shown A c (ControlWrite ch v) l h =

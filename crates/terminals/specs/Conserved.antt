@@ -19,7 +19,8 @@ use Rattle.blocks.specs.Heard.{Moment, heeding, Final, final, handed, before, h
 use Rattle.chip.specs.declared.Chip.{Chip}
 use Rattle.chip.specs.Event.{Event}
 use Rattle.stories.specs.Story.{Which, chan, happens, after}
-use Rattle.stories.specs.Received.{Role, Hears, Reads, Else, role, isRead, taking, tookOf}
+use Rattle.stories.specs.Received.{ToReceiver, Hears, Reads, Else, toReceiver}
+use Rattle.stories.specs.Received.{isRead, taking, tookOf}
 use Rattle.terminals.specs.Side.{Heeded, Side, side, sideOf, checkingOf, momentIn}
 use Rattle.terminals.specs.Side.{momentsOf}
 use Rattle.terminals.specs.Events.{queuedBy, heardBy, heardSide, readSide, Follows}
@@ -37,12 +38,12 @@ roomy x i b = roomFor (x .queue) (heardBy i b x)
 
 pub data Fed (w : Which) : Chip → List Event → Type 0 where
   over : {c : Chip} → Fed w c []
-  hears : {c : Chip} {e : Event} {st : List Event} {b : Bool} → role w e ≡ Hears b
+  hears : {c : Chip} {e : Event} {st : List Event} {b : Bool} → toReceiver w e ≡ Hears b
       → roomy (sideOf w c) (checkingOf w c) b ≡ true → Fed w (happens c e .chip) st
       → Fed w c (e ∷ st)
-  reads : {c : Chip} {e : Event} {st : List Event} → role w e ≡ Reads
+  reads : {c : Chip} {e : Event} {st : List Event} → toReceiver w e ≡ Reads
       → Fed w (happens c e .chip) st → Fed w c (e ∷ st)
-  still : {c : Chip} {e : Event} {st : List Event} → role w e ≡ Else
+  still : {c : Chip} {e : Event} {st : List Event} → toReceiver w e ≡ Else
       → sideOf w (happens c e .chip) ≡ sideOf w c → Fed w (happens c e .chip) st
       → Fed w c (e ∷ st)
 
@@ -98,10 +99,10 @@ conserved w (still {c = c} {e = x} {st = st} z s i) r k q h es d e m =
       there = n .there;
       holds = n .holds;
       whole = λ rest.
-          ap (λ (y : Role). before es (hearAll g r k
+          ap (λ (y : ToReceiver). before es (hearAll g r k
           ((momentIn (checkingOf w c) y ++ momentsOf w (happens c x .chip) st) ++ rest))) z
           ∙ n .whole rest
-          ∙ ap (λ (y : Role). before
+          ∙ ap (λ (y : ToReceiver). before
           ((entryIf (taking w c y) (oldest (chan w c .queue)) ++ tookOf w (happens c x .chip) st)
           ++ n .waiting) (hearAll g (n .last) (n .check) rest)) (sym z);
     }
@@ -123,7 +124,7 @@ conserved w (reads {c = c} {e = x} {st = st} z i) r k q h es d e m =
       there = n .there;
       holds = n .holds;
       whole = λ rest.
-          ap (λ (y : Role).
+          ap (λ (y : ToReceiver).
           before es (hearAll g r k ((momentIn (checkingOf w c) y ++ ts) ++ rest))) z
           ∙ ap (λ (l : List Entry). before l (hearAll g r k (ts ++ rest))) (t .split)
           ∙ sym (before-join took (t .rest) (hearAll g r k (ts ++ rest)))
@@ -131,7 +132,7 @@ conserved w (reads {c = c} {e = x} {st = st} z i) r k q h es d e m =
           ∙ before-join took (more ++ n .waiting) (hearAll g (n .last) (n .check) rest)
           ∙ ap (λ (l : List Entry). before l (hearAll g (n .last) (n .check) rest))
           (sym (append-assoc took more (n .waiting)))
-          ∙ ap₂ (λ (y : Role) (u : Side). before
+          ∙ ap₂ (λ (y : ToReceiver) (u : Side). before
           ((entryIf (isRead y && waits (u .queue)) (oldest (u .queue)) ++ more) ++ n .waiting)
           (hearAll g (n .last) (n .check) rest)) (sym z) (sym e);
     }
@@ -154,10 +155,10 @@ conserved w (hears {c = c} {e = x} {st = st} {b = b} z s i) r k q h es d e m =
       there = n .there;
       holds = n .holds;
       whole = λ rest.
-          ap (λ (y : Role). before es (hearAll g r k ((momentIn j y ++ ts) ++ rest))) z
+          ap (λ (y : ToReceiver). before es (hearAll g r k ((momentIn j y ++ ts) ++ rest))) z
           ∙ before-join es (handed u) (hearAll g (u .reception) (u .check) (ts ++ rest))
           ∙ n .whole rest
-          ∙ ap (λ (y : Role). before
+          ∙ ap (λ (y : ToReceiver). before
           ((entryIf (taking w c y) (oldest (chan w c .queue)) ++ tookOf w (happens c x .chip) st)
           ++ n .waiting) (hearAll g (n .last) (n .check) rest)) (sym z);
     }

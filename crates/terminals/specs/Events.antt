@@ -31,7 +31,7 @@ use Rattle.chip.specs.Chip.{inA, inB, onLevel, dataReadCall, receiveCall}
 use Rattle.chip.specs.Event.{Event, HardReset, ControlWrite, ControlRead, DataWrite, DataRead}
 use Rattle.chip.specs.Event.{Transmit, Receive, SetLines, Acknowledge, Reti}
 use Rattle.stories.specs.Story.{Which, A, B, number, happens}
-use Rattle.stories.specs.Received.{Role, Hears, Reads, Else, role, bitIn, bitsOf}
+use Rattle.stories.specs.Received.{ToReceiver, Hears, Reads, Else, toReceiver, bitIn, bitsOf}
 use Rattle.terminals.specs.Side.{Heeded, heeded, Side, side, receivingIn, sideIn}
 use Rattle.terminals.specs.Side.{sideOf, checkingOf, momentIn, momentsOf}
 
@@ -79,7 +79,7 @@ abbrev pub readSide : Side → Side
 readSide x = side (x .reception) (x .check) (taken (x .queue)) (x .heeds)
 
 -- what an event's role says of the side behind it
-abbrev pub Follows : Which → Chip → Chip → Role → Type 0
+abbrev pub Follows : Which → Chip → Chip → ToReceiver → Type 0
 Follows w c d (Hears b) = sideOf w d ≡ heardSide (checkingOf w c) b (sideOf w c)
 Follows w c d Reads = sideOf w d ≡ readSide (sideOf w c)
 Follows w c d Else = Unit
@@ -134,7 +134,7 @@ read-follows A c = read-in (c .a)
 read-follows B c = read-in (c .b)
 
 pub follows : (w : Which) (c : Chip) (e : Event) → Hearing (sideOf w c .heeds)
-    → Follows w c (happens c e .chip) (role w e)
+    → Follows w c (happens c e .chip) (toReceiver w e)
 follows w c HardReset h = tt
 follows w c (ControlWrite ch v) h = tt
 follows w c (ControlRead ch) h = tt
@@ -152,8 +152,8 @@ follows w c Acknowledge h = tt
 follows w c Reti h = tt
 
 -- a story's moments have its bits
-moment-bits : (i : Bool) (r : Role) (ts : List Moment) (bs : List Bool) → characters.bitsOf ts ≡ bs
-    → characters.bitsOf (momentIn i r ++ ts) ≡ bitIn r ++ bs
+moment-bits : (i : Bool) (r : ToReceiver) (ts : List Moment) (bs : List Bool)
+    → characters.bitsOf ts ≡ bs → characters.bitsOf (momentIn i r ++ ts) ≡ bitIn r ++ bs
 unfolding characters.bitsOf
 moment-bits i (Hears b) ts bs e = ap (λ (l : List Bool). b ∷ l) e
 moment-bits i Reads ts bs e = e
@@ -165,4 +165,5 @@ unfolding bitsOf momentsOf
 moments-bits w c [] = unfold characters.bitsOf in refl
 moments-bits w c (e ∷ st) =
     let d = happens c e .chip in
-    moment-bits (checkingOf w c) (role w e) (momentsOf w d st) (bitsOf w st) (moments-bits w d st)
+    moment-bits (checkingOf w c) (toReceiver w e) (momentsOf w d st) (bitsOf w st)
+    (moments-bits w d st)

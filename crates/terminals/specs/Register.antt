@@ -25,7 +25,7 @@ use Rattle.chip.specs.Chip.{inA, inB, onLevel, receiveCall}
 use Rattle.chip.specs.Event.{Event, HardReset, ControlWrite, ControlRead, DataWrite, DataRead}
 use Rattle.chip.specs.Event.{Transmit, Receive, SetLines, Acknowledge, Reti}
 use Rattle.stories.specs.Story.{Which, A, B, number, chan, happens, after}
-use Rattle.stories.specs.Received.{Role, Hears, Reads, Else, role, bitIn}
+use Rattle.stories.specs.Received.{ToReceiver, Hears, Reads, Else, toReceiver, bitIn}
 use Rattle.terminals.specs.Side.{receivingIn, sideOf}
 use Rattle.terminals.specs.Events.{hear-on, hear-off}
 use Rattle.terminals.specs.Statement.{receptionOf, checkOf, Since, over, hears}
@@ -36,7 +36,7 @@ use Rattle.terminals.specs.Statement.{RegisterSincePreset}
 abbrev heardIn : Which → Chip → Bool → Heard
 heardIn w c b = hear (receivingIn (chan w c)) (chan w c .receiver) b
 
-abbrev ReceiverIs : Which → Chip → Chip → Role → Type 0
+abbrev ReceiverIs : Which → Chip → Chip → ToReceiver → Type 0
 ReceiverIs w c d (Hears b) = chan w d .receiver ≡ heardIn w c b .receiver
 ReceiverIs w c d Reads = Unit
 ReceiverIs w c d Else = Unit
@@ -56,7 +56,8 @@ tick-receiver B c bit =
     else answered Done (receiveTick (c .b) (onLevel bit))) .chip)
     (if t then Else else Hears (onLevel bit))) [ true ↦ tt | false ↦ refl ]
 
-receiver-is : (w : Which) (c : Chip) (e : Event) → ReceiverIs w c (happens c e .chip) (role w e)
+receiver-is : (w : Which) (c : Chip) (e : Event)
+    → ReceiverIs w c (happens c e .chip) (toReceiver w e)
 receiver-is w c HardReset = tt
 receiver-is w c (ControlWrite ch v) = tt
 receiver-is w c (ControlRead ch) = tt
@@ -78,7 +79,7 @@ receiver-is w c Reti = tt
 abbrev quietTale : Bool → Tale
 quietTale h = if h then Hunt else Within
 
-quiet-tale : (w : Which) (c d : Chip) (r : Role) → bitIn r ≡ []
+quiet-tale : (w : Which) (c d : Chip) (r : ToReceiver) → bitIn r ≡ []
     → taleOf w c d r ≡ quietTale (receptionOf w d .hunt)
 quiet-tale w c d (Hears b) e = void (ap isSome (sym e))
   where
@@ -114,18 +115,18 @@ unfolding talesOf entrantsOf
 steady w over = λ k h x. refl
 steady w (hears {c = c} {e = e} {st = st} {b = b} z m i) =
     let d = happens c e .chip in
-    subst (λ (r : Role). Steady (receptionOf w c) (taleOf w c d r ∷ talesOf w d st)) (sym z)
+    subst (λ (r : ToReceiver). Steady (receptionOf w c) (taleOf w c d r ∷ talesOf w d st)) (sym z)
     (tale-steady w c d b (talesOf w d st))
 steady w (searches {c = c} {e = e} {st = st} z r k i) =
     let d = happens c e .chip in
-    let t : taleOf w c d (role w e) ≡ Hunt =
-    quiet-tale w c d (role w e) z ∙ ap (λ (x : Reception). quietTale (x .hunt)) r in
+    let t : taleOf w c d (toReceiver w e) ≡ Hunt =
+    quiet-tale w c d (toReceiver w e) z ∙ ap (λ (x : Reception). quietTale (x .hunt)) r in
     subst (λ (x : Tale). Steady (receptionOf w c) (x ∷ talesOf w d st)) (sym t)
     (λ k h x. refl)
 steady w (still {c = c} {e = e} {st = st} z r k i) =
     let d = happens c e .chip in
-    let t : taleOf w c d (role w e) ≡ quietTale (receptionOf w c .hunt) =
-    quiet-tale w c d (role w e) z ∙ ap (λ (x : Reception). quietTale (x .hunt)) r in
+    let t : taleOf w c d (toReceiver w e) ≡ quietTale (receptionOf w c .hunt) =
+    quiet-tale w c d (toReceiver w e) z ∙ ap (λ (x : Reception). quietTale (x .hunt)) r in
     subst (λ (x : Tale). Steady (receptionOf w c) (x ∷ talesOf w d st)) (sym t)
     (quiet-steady (receptionOf w c .hunt) (receptionOf w c) (talesOf w d st) refl)
 
@@ -184,12 +185,12 @@ story-enters w (hears {c = c} {e = e} {st = st} {b = b} z m i) =
     let r : chan w d .receiver ≡ heardIn w c b .receiver =
     subst (ReceiverIs w c d) z (receiver-is w c e) in
     story-enters w i ∙ tick-enters w c d b ts m r (steady w i)
-    ∙ ap (λ (x : Role). Enters (receptionOf w c) (checkOf w c) (taleOf w c d x ∷ ts)) (sym z)
+    ∙ ap (λ (x : ToReceiver). Enters (receptionOf w c) (checkOf w c) (taleOf w c d x ∷ ts)) (sym z)
 story-enters w (searches {c = c} {e = e} {st = st} z r k i) =
     let d = happens c e .chip in
     let ts = talesOf w d st in
-    let t : taleOf w c d (role w e) ≡ Hunt =
-    quiet-tale w c d (role w e) z ∙ ap (λ (x : Reception). quietTale (x .hunt)) r in
+    let t : taleOf w c d (toReceiver w e) ≡ Hunt =
+    quiet-tale w c d (toReceiver w e) z ∙ ap (λ (x : Reception). quietTale (x .hunt)) r in
     story-enters w i
     ∙ ap₂ (λ (x : Reception) (y : ℕ). Enters x y ts) r k
     ∙ hunt-enters (receptionOf w c) (checkOf w c) ts
@@ -197,8 +198,8 @@ story-enters w (searches {c = c} {e = e} {st = st} z r k i) =
 story-enters w (still {c = c} {e = e} {st = st} z r k i) =
     let d = happens c e .chip in
     let ts = talesOf w d st in
-    let t : taleOf w c d (role w e) ≡ quietTale (receptionOf w c .hunt) =
-    quiet-tale w c d (role w e) z ∙ ap (λ (x : Reception). quietTale (x .hunt)) r in
+    let t : taleOf w c d (toReceiver w e) ≡ quietTale (receptionOf w c .hunt) =
+    quiet-tale w c d (toReceiver w e) z ∙ ap (λ (x : Reception). quietTale (x .hunt)) r in
     story-enters w i
     ∙ ap₂ (λ (x : Reception) (y : ℕ). Enters x y ts) r k
     ∙ quiet-enters (receptionOf w c .hunt) (receptionOf w c) (checkOf w c) ts refl

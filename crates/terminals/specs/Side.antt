@@ -15,7 +15,7 @@ use Rattle.channel.specs.declared.Channel.{Channel}
 use Rattle.chip.specs.declared.Chip.{Chip}
 use Rattle.chip.specs.Event.{Event}
 use Rattle.stories.specs.Story.{Which, chan, happens}
-use Rattle.stories.specs.Received.{Role, Hears, Reads, Else, role}
+use Rattle.stories.specs.Received.{ToReceiver, Hears, Reads, Else, toReceiver}
 
 -- what the two modes heed of the settings; WR3 D3 stands as clear
 pub record Heeded : Type 0 where
@@ -50,11 +50,12 @@ abbrev pub checkingOf : Which → Chip → Bool
 checkingOf w c = receivingIn (chan w c) .matching .checking
 
 -- the receive ticks of a story, each with WR3 D3 as it is then
-abbrev pub momentIn : Bool → Role → List Moment
+abbrev pub momentIn : Bool → ToReceiver → List Moment
 momentIn i (Hears b) = moment i b ∷ []
 momentIn i Reads = []
 momentIn i Else = []
 
 unfoldable pub momentsOf : Which → Chip → List Event → List Moment
 momentsOf w c [] = []
-momentsOf w c (e ∷ st) = momentIn (checkingOf w c) (role w e) ++ momentsOf w (happens c e .chip) st
+momentsOf w c (e ∷ st) =
+    momentIn (checkingOf w c) (toReceiver w e) ++ momentsOf w (happens c e .chip) st

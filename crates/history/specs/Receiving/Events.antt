@@ -29,7 +29,8 @@ use Rattle.chip.specs.Chip.{inA, inB, onLevel, dataReadCall, receiveCall}
 use Rattle.chip.specs.Event.{Event, HardReset, ControlWrite, ControlRead, DataWrite, DataRead}
 use Rattle.chip.specs.Event.{Transmit, Receive, SetLines, Acknowledge, Reti}
 use Rattle.stories.specs.Story.{Which, A, B, number, chan, happens}
-use Rattle.stories.specs.Received.{Role, Hears, Reads, Else, role, isRead, taking, valueIf}
+use Rattle.stories.specs.Received.{ToReceiver, Hears, Reads, Else, toReceiver}
+use Rattle.stories.specs.Received.{isRead, taking, valueIf}
 use Rattle.stories.specs.Received.{valuesOf}
 use Rattle.stories.specs.Received.{tookOf, bytesOf}
 use Rattle.history.specs.Receiving.Side.{Heeded, heeded, Side, side, sideIn, sideOf}
@@ -48,7 +49,7 @@ abbrev pub readSide : Side → Side
 readSide x = side (x .listener) (taken (x .queue)) (x .settings)
 
 -- what an event's role says of the side behind it
-abbrev pub Follows : Which → Chip → Chip → Role → Type 0
+abbrev pub Follows : Which → Chip → Chip → ToReceiver → Type 0
 Follows w c d (Hears b) = sideOf w d ≡ heardSide b (sideOf w c)
 Follows w c d Reads = sideOf w d ≡ readSide (sideOf w c)
 Follows w c d Else = Unit
@@ -111,7 +112,7 @@ read-follows A c = read-in (c .a)
 read-follows B c = read-in (c .b)
 
 pub follows : (w : Which) (c : Chip) (e : Event) → Hearing (sideOf w c .settings)
-    → Follows w c (happens c e .chip) (role w e)
+    → Follows w c (happens c e .chip) (toReceiver w e)
 follows w c HardReset h = tt
 follows w c (ControlWrite ch v) h = tt
 follows w c (ControlRead ch) h = tt
@@ -136,7 +137,7 @@ unfolding bytesOf
 bytes-append [] ys = refl
 bytes-append (x ∷ xs) ys = ap (λ (l : List ℕ). x .byte ∷ l) (bytes-append xs ys)
 
-abbrev Answers : Which → Chip → Outcome → Role → Type 0
+abbrev Answers : Which → Chip → Outcome → ToReceiver → Type 0
 Answers w c o r =
     bytesOf (entryIf (taking w c r) (oldest (chan w c .queue))) ≡ valueIf (isRead r) (o .answer)
 
@@ -150,7 +151,7 @@ unfolding dataReadCall
 read-answers A c = read-gives (c .a)
 read-answers B c = read-gives (c .b)
 
-answers : (w : Which) (c : Chip) (e : Event) → Answers w c (happens c e) (role w e)
+answers : (w : Which) (c : Chip) (e : Event) → Answers w c (happens c e) (toReceiver w e)
 unfolding bytesOf
 answers w c HardReset = refl
 answers w c (ControlWrite ch v) = refl
@@ -172,6 +173,6 @@ pub values-are : (w : Which) (c : Chip) (st : List Event)
 unfolding tookOf valuesOf
 values-are w c [] = unfold bytesOf in refl
 values-are w c (e ∷ st) =
-    bytes-append (entryIf (taking w c (role w e)) (oldest (chan w c .queue)))
+    bytes-append (entryIf (taking w c (toReceiver w e)) (oldest (chan w c .queue)))
     (tookOf w (happens c e .chip) st)
     ∙ ap₂ (λ (x y : List ℕ). x ++ y) (answers w c e) (values-are w (happens c e .chip) st)

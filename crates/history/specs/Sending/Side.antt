@@ -19,7 +19,7 @@ use Rattle.chip.specs.declared.Chip.{Chip}
 use Rattle.chip.specs.Event.{Event, HardReset, ControlWrite, ControlRead, DataWrite, DataRead}
 use Rattle.chip.specs.Event.{Transmit, Receive, SetLines, Acknowledge, Reti}
 use Rattle.stories.specs.Story.{Which, number, chan}
-use Rattle.stories.specs.Sent.{Role, Ticks, Writes, Else, role}
+use Rattle.stories.specs.Sent.{ToSender, Ticks, Writes, Else, toSender}
 use Rattle.whole.specs.Come as come
 
 -- what SDLC heeds of the settings: "In SDLC all characters have eight bits and no parity .. no
@@ -77,12 +77,12 @@ latchOf w c = chan w c .sender .shared .latch
 
 -- What an event is to this sender, as something to match on: a proof by roles has three cases,
 -- whatever the number of events
-pub data View (w : Which) : Event → Role → Type 0 where
+pub data View (w : Which) : Event → ToSender → Type 0 where
   its-tick : View w (Transmit (number w)) Ticks
   its-write : {v : ℕ} → View w (DataWrite (number w) v) (Writes v)
   other : {e : Event} → View w e Else
 
-pub view : (w : Which) (e : Event) → View w e (role w e)
+pub view : (w : Which) (e : Event) → View w e (toSender w e)
 view w HardReset = other
 view w (ControlWrite ch v) = other
 view w (ControlRead ch) = other
