@@ -4,7 +4,6 @@ use mathlib.Core.List.{List, map}
 use Prim.Native.Nat.{ℕ, zero, suc}
 use Rattle.channel.specs.Answer.{answerValue}
 use Rattle.chip.specs.declared.Chip.{Chip}
-use Rattle.chip.specs.declared.Outcome.{Outcome}
 use Rattle.chip.specs.Event.{Event, Transmit, Receive, step}
 
 -- a line's bits come to a channel

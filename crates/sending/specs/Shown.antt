@@ -39,7 +39,7 @@ use Rattle.chip.specs.Event.{Transmit, Receive, SetLines, Acknowledge, Reti}
 use Rattle.stories.specs.Story.{Which, A, B, number, chan, happens}
 use Rattle.stories.specs.Sent.{d6, resetStatus}
 use Rattle.history.specs.Sending.Side.{sendingIn, latchOf}
-use Rattle.history.specs.Sending.Quiet.{by-channel}
+use Rattle.history.specs.Quiet.{by-channel}
 use Rattle.channel.specs.declared.Side.the-variants as channels
 
 -- D6 as it is read

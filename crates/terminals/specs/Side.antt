@@ -9,7 +9,10 @@ use Rattle.queue.specs.declared.Queue.{Queue}
 use Rattle.bytesync.specs.declared.Matching.{Matching}
 use Rattle.bytesync.specs.declared.Reception.{Reception}
 use Rattle.blocks.specs.Heard.{Moment, moment, heeding}
+use Rattle.receiver.specs.declared.Receiver.{Receiver}
 use Rattle.receiver.specs.declared.Receiving.{Receiving}
+use Rattle.settings.specs.declared.Registers.{Registers}
+use Rattle.settings.specs.declared.Lines.{Lines}
 use Rattle.settings.specs.Settings.{receivingOf}
 use Rattle.channel.specs.declared.Channel.{Channel}
 use Rattle.chip.specs.declared.Chip.{Chip}
@@ -38,9 +41,11 @@ side r k q h = record { reception = r; check = k; queue = q; heeds = h }
 abbrev pub receivingIn : Channel → Receiving
 receivingIn c = receivingOf (c .registers) (c .lines)
 
+abbrev pub part : Registers → Lines → Receiver → Queue → Side
+part r l v q = side (v .reception) (v .check) q (heeded (receivingOf r l))
+
 abbrev pub sideIn : Channel → Side
-sideIn c =
-    side (c .receiver .reception) (c .receiver .check) (c .queue) (heeded (receivingIn c))
+sideIn c = part (c .registers) (c .lines) (c .receiver) (c .queue)
 
 abbrev pub sideOf : Which → Chip → Side
 sideOf w c = sideIn (chan w c)

@@ -10,7 +10,7 @@ use Rattle.common.specs.Tools.{void, both-left, both-right, not-true}
 use Rattle.chip.specs.declared.Chip.{Chip}
 use Rattle.chip.specs.Event.{Event}
 use Rattle.whole.specs.Stage.{sinceAfter, inTime}
-use Rattle.stories.specs.Story.{Which, happens}
+use Rattle.stories.specs.Story.{Which, happens, throughout, throughout-holds}
 use Rattle.stories.specs.Sent.{ToSender, Ticks, Writes, Else, toSender}
 use Rattle.history.specs.Sending.Side.{fullOf, latchOf, View, its-tick, its-write, other, view}
 use Rattle.history.specs.Sending.Quiet.{quiet, quiet-keeps}
@@ -84,9 +84,8 @@ free w c e Ticks = true
 free w c e (Writes b) = true
 free w c e Else = quiet w c e
 
-unfoldable pub freely : Which → Chip → List Event → Bool
-freely w c [] = true
-freely w c (e ∷ st) = free w c e (toSender w e) && freely w (happens c e .chip) st
+abbrev pub freely : Which → Chip → List Event → Bool
+freely w c st = throughout (λ d e. free w d e (toSender w e)) c st
 
 one-free : (w : Which) (c : Chip) (e : Event) (st : List Event) (r : ToSender) → View w e r
     → toSender w e ≡ r → free w c e r ≡ true → Free w (happens c e .chip) st → Free w c (e ∷ st)
@@ -95,11 +94,6 @@ one-free w c _ st (Writes b) its-write q a f = stated.writes f
 one-free w c e st Else other q a f = stated.still q (quiet-keeps w c e a) f
 
 pub free-of : (w : Which) (c : Chip) (st : List Event) → freely w c st ≡ true → Free w c st
-unfolding freely
-free-of w c [] t = stated.ended
-free-of w c (e ∷ st) t =
-    let r = toSender w e in
-    one-free w c e st r (view w e) refl
-    (both-left (free w c e r) (freely w (happens c e .chip) st) t)
-    (free-of w (happens c e .chip) st
-    (both-right (free w c e r) (freely w (happens c e .chip) st) t))
+free-of w c st t =
+    throughout-holds (λ d e. free w d e (toSender w e)) (Free w) (λ d. stated.ended)
+    (λ d e xs. one-free w d e xs (toSender w e) (view w e) refl) c st t

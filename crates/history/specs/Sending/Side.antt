@@ -10,9 +10,12 @@ use Rattle.common.specs.declared.Mode.the-variants.{Sdlc}
 use Rattle.sdlc.specs.declared.Framing.{Framing}
 use Rattle.sdlc.specs.declared.Framer.{Framer}
 use Rattle.sdlc.specs.Sending.{framing}
+use Rattle.sender.specs.declared.Sender.{Sender}
 use Rattle.sender.specs.declared.Sending.{Sending}
 use Rattle.sender.specs.Sender.{framerOf}
 use Rattle.sender.specs.Good.{Good}
+use Rattle.settings.specs.declared.Registers.{Registers}
+use Rattle.settings.specs.declared.Lines.{Lines}
 use Rattle.settings.specs.Settings.{sendingOf}
 use Rattle.channel.specs.declared.Channel.{Channel}
 use Rattle.chip.specs.declared.Chip.{Chip}
@@ -63,8 +66,11 @@ side s h = record { sender = s; heeds = h }
 abbrev pub sendingIn : Channel → Sending
 sendingIn c = sendingOf (c .registers) (c .lines)
 
+abbrev pub part : Registers → Lines → Sender → SenderSide
+part r l s = side (framerOf s) (heeded (sendingOf r l))
+
 abbrev pub sideIn : Channel → SenderSide
-sideIn c = side (framerOf (c .sender)) (heeded (sendingIn c))
+sideIn c = part (c .registers) (c .lines) (c .sender)
 
 abbrev pub sideOf : Which → Chip → SenderSide
 sideOf w c = sideIn (chan w c)
