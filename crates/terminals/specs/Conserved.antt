@@ -1,16 +1,15 @@
 -- Conservation, for any ticks: what was read, then what waits, is what waited before, then what was
 -- handed over. Assumes nothing.
 use mathlib.Core.Path.{_≡_, refl, sym, ap, ap₂, _∙_, subst}
-use mathlib.Core.Bool.{Bool, true, false, not, _&&_, _||_}
-use mathlib.Core.List.{List, [], _∷_, _++_, append-assoc, append-nil}
+use mathlib.Core.Bool.{Bool, true, not, _&&_, _||_}
+use mathlib.Core.List.{List, [], _∷_, _++_, append-assoc}
 use Prim.Native.Nat.{ℕ}
 use lib.Dec.{ltb}
-use Rattle.common.specs.Choice.{if_then_else_}
 use Rattle.entry.specs.declared.Entry.{Entry}
 use Rattle.queue.specs.declared.Queue.{Queue}
-use Rattle.queue.specs.Queue.{room, pushed, taken, oldest, waits}
-use Rattle.queue.specs.Laws.{push-holds, read-holds}
-use Rattle.queue.specs.Holding.{Plain, Holds, entryIf}
+use Rattle.queue.specs.Queue.{room, taken, oldest, waits}
+use Rattle.queue.specs.Laws.{read-holds}
+use Rattle.queue.specs.Holding.{Holds, entryIf}
 use Rattle.bytesync.specs.declared.Reception.{Reception}
 use Rattle.bytesync.specs.declared.Matched.{Matched}
 use Rattle.bytesync.specs.Hearing.{hearBlock}
@@ -23,6 +22,7 @@ use Rattle.stories.specs.Received.{ToReceiver, Hears, Reads, Else, toReceiver}
 use Rattle.stories.specs.Received.{isRead, taking, tookOf}
 use Rattle.terminals.specs.Side.{Heeded, Side, side, sideOf, checkingOf, momentIn}
 use Rattle.terminals.specs.Side.{momentsOf}
+use Rattle.history.specs.Receiving.Events.{queue-takes}
 use Rattle.terminals.specs.Events.{queuedBy, heardBy, heardSide, readSide, Follows}
 use Rattle.terminals.specs.Events.{Hearing, follows}
 
@@ -50,16 +50,6 @@ pub data Fed (w : Which) : Chip → List Event → Type 0 where
 before-join : (xs ys : List Entry) (f : Final) → before xs (before ys f) ≡ before (xs ++ ys) f
 before-join xs ys f =
     ap (final (f .reception) (f .check)) (sym (append-assoc xs ys (f .got)))
-
--- the queue takes what a tick hands over
-queue-takes : {p o : Bool} {q : Queue} {es : List Entry} (h : Matched) → Holds p o q es
-    → roomFor q h ≡ true → Plain (h .entry) → Holds p o (queuedBy q h) (es ++ handed h)
-queue-takes {p} {o} {q} {es} h k r e = go (h .some) r
-  where
-    go : (t : Bool) → not t || ltb (q .count) room ≡ true
-        → Holds p o (if t then pushed q (h .entry) else q) (es ++ entryIf t (h .entry))
-    go true r = push-holds k r e
-    go false r = rw (append-nil es) k
 
 -- at the end of a story: the side, and, whatever ticks follow, the whole of what is handed over
 pub record Conserved (w : Which) (c : Chip) (st : List Event) (r : Reception) (k : ℕ) (h : Heeded)
@@ -145,7 +135,7 @@ conserved w (hears {c = c} {e = x} {st = st} {b = b} z s i) r k q h es d e m =
     (follows w c x (subst Hearing (sym (ap (λ (y : Side). y .heeds) e)) d)) in
     let space : roomFor q u ≡ true = ap (λ (y : Side). roomy y j b) (sym e) ∙ s in
     let n = conserved w i (u .reception) (u .check) (queuedBy q u) h (es ++ handed u) d
-    (f ∙ ap (heardSide j b) e) (queue-takes u m space (hear-plain (heeding g j) r k b)) in
+    (f ∙ ap (heardSide j b) e) (queue-takes (u .some) (u .entry) m space (hear-plain (heeding g j) r k b)) in
     let ts = momentsOf w (happens c x .chip) st in
     record {
       last = n .last;

@@ -1,17 +1,18 @@
 -- The chip meets the receiving side: what a receive tick and a data read of a channel do to it, and
 -- what the reads answer. Assumes nothing.
 use mathlib.Core.Path.{_≡_, refl, sym, ap, ap₂, _∙_}
-use mathlib.Core.Bool.{Bool, true, false, not, _&&_}
-use mathlib.Core.List.{List, [], _∷_, _++_}
+use mathlib.Core.Bool.{Bool, true, false, not, _&&_, _||_}
+use mathlib.Core.List.{List, [], _∷_, _++_, append-nil}
 use Prim.Native.Nat.{ℕ}
-use lib.Dec.{eqb}
+use lib.Dec.{eqb, ltb}
 use Rattle.common.specs.Choice.{if_then_else_}
 use Rattle.common.specs.Tools.{by-test, bool-or, void}
 use Rattle.common.specs.declared.Mode.the-variants.{Sdlc}
 use Rattle.entry.specs.declared.Entry.{Entry}
 use Rattle.queue.specs.declared.Queue.{Queue}
-use Rattle.queue.specs.Queue.{pushed, taken, oldest, waits}
-use Rattle.queue.specs.Holding.{entryIf}
+use Rattle.queue.specs.Queue.{room, pushed, taken, oldest, waits}
+use Rattle.queue.specs.Holding.{Plain, Holds, entryIf}
+use Rattle.queue.specs.Laws.{push-holds}
 use Rattle.sdlc.specs.declared.Listened.{Listened}
 use Rattle.sdlc.specs.Hearing.{hearSdlc}
 use Rattle.receiver.specs.declared.Heard.{Heard}
@@ -75,6 +76,13 @@ taken-none : (q : Queue) → waits q ≡ false → taken q ≡ q
 unfolding taken
 taken-none q e =
     by-test (λ (x : Queue). x ≡ q) (eqb (q .count) 0) (λ t. refl) (λ t. void (sym e ∙ ap not t))
+
+-- the queue takes what a tick hands over, if there is room for it
+pub queue-takes : {p o : Bool} {q : Queue} {es : List Entry} (some : Bool) (x : Entry)
+    → Holds p o q es → not some || ltb (q .count) room ≡ true → Plain x
+    → Holds p o (if some then pushed q x else q) (es ++ entryIf some x)
+queue-takes true x k r e = push-holds k r e
+queue-takes {es = es} false x k r e = rw (append-nil es) k
 
 -- a read, for every part that receiver and queue say
 pub read-in : {X : Type 0} (g : Registers → Lines → Receiver → Queue → X) (c : Channel)
