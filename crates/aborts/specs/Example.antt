@@ -13,7 +13,7 @@ use Rattle.chip.specs.Computing.{computing}
 use Rattle.chip.specs.declared.Chip.{Chip}
 use Rattle.chip.specs.Event.{Event, ControlWrite, DataWrite}
 use Rattle.whole.specs.Heard.{hearAll, endMarks}
-use Rattle.stories.specs.Story.{A, B, chan, happens, after}
+use Rattle.stories.specs.Story.{A, B, chan, happens, after, throughout}
 use Rattle.stories.specs.Sent.{lineOf, ticks}
 use Rattle.stories.specs.Received.{bitsOf}
 use Rattle.stories.specs.Sending.{times, tick, begin, begun, sendAbort, gone}
@@ -89,11 +89,38 @@ pub record Examples : Type 0 where
   pub next-closed : closed A (after (after (cutChip begun) (anew A)) next) ≡ true
 
 pub examples : Examples
-unfolding computing hosting freely attending hearAll bitsOf story times lineOf after loaded passed
+unfolding computing throughout hearAll bitsOf story times lineOf after loaded passed
 examples = record {
-  amid = record { hosted = refl; before = refl; to-wr0 = refl; runs = refl; attends = refl; first-bits = refl; rest-bits = refl; none-waits = refl };
-  in-flag = record { hosted = refl; before = refl; to-wr0 = refl; runs = refl; attends = refl; first-bits = refl; rest-bits = refl; none-waits = refl };
-  overflows = record { hosted = refl; before = refl; to-wr0 = refl; runs = refl; attends = refl; first-bits = refl; rest-bits = refl; none-waits = refl };
+  amid = record {
+    hosted = refl;
+    before = refl;
+    to-wr0 = refl;
+    runs = refl;
+    attends = refl;
+    first-bits = refl;
+    rest-bits = refl;
+    none-waits = refl;
+  };
+  in-flag = record {
+    hosted = refl;
+    before = refl;
+    to-wr0 = refl;
+    runs = refl;
+    attends = refl;
+    first-bits = refl;
+    rest-bits = refl;
+    none-waits = refl;
+  };
+  overflows = record {
+    hosted = refl;
+    before = refl;
+    to-wr0 = refl;
+    runs = refl;
+    attends = refl;
+    first-bits = refl;
+    rest-bits = refl;
+    none-waits = refl;
+  };
   overran = refl;
   no-end = refl;
   an-end = refl;

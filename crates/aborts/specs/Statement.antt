@@ -20,7 +20,7 @@ use Rattle.whole.specs.Start.{flagHead}
 use Rattle.whole.specs.Heard.{hearAll, flagFree, endMarks}
 use Rattle.stories.specs.Story.{Which, number, chan, happens, after}
 use Rattle.stories.specs.Sent.{isTick, lineOf, ticks}
-use Rattle.stories.specs.Received.{Hears, Reads, Else, role, bitsOf, tookOf}
+use Rattle.stories.specs.Received.{Hears, Reads, Else, toReceiver, bitsOf, tookOf}
 use Rattle.history.specs.Sending.Side.{sideOf}
 use Rattle.history.specs.Receiving.Side as receiving
 use Rattle.history.specs.Receiving.Events.{Hearing}
@@ -99,12 +99,12 @@ waitingOf u r = waitingIn (chan u r .queue)
 -- else leaves its side as it is. Its queue may overflow
 pub data Attends (u : Which) : Chip → List Event → Type 0 where
   over : {r : Chip} → Attends u r []
-  hears : {r : Chip} {e : Event} {st : List Event} {b : Bool} → role u e ≡ Hears b
+  hears : {r : Chip} {e : Event} {st : List Event} {b : Bool} → toReceiver u e ≡ Hears b
       → Attends u (happens r e .chip) st → Attends u r (e ∷ st)
-  reads : {r : Chip} {e : Event} {st : List Event} → role u e ≡ Reads
+  reads : {r : Chip} {e : Event} {st : List Event} → toReceiver u e ≡ Reads
       → Attends u (happens r e .chip) st
       → Attends u r (e ∷ st)
-  still : {r : Chip} {e : Event} {st : List Event} → role u e ≡ Else
+  still : {r : Chip} {e : Event} {st : List Event} → toReceiver u e ≡ Else
       → receiving.sideOf u (happens r e .chip) ≡ receiving.sideOf u r
       → Attends u (happens r e .chip) st
       → Attends u r (e ∷ st)

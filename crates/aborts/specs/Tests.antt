@@ -1,14 +1,13 @@
 -- A host that ticks and writes as it likes leaves an abort to run; and a test that a reader can run
 -- on a receiver's story. Assumes nothing.
 use mathlib.Core.Path.{_≡_, refl, ap}
-use mathlib.Core.Bool.{Bool, true, _&&_}
-use mathlib.Core.List.{List, [], _∷_}
+use mathlib.Core.Bool.{Bool, true}
+use mathlib.Core.List.{List, _∷_}
 use Rattle.chip.specs.declared.Chip.{Chip}
 use Rattle.chip.specs.Event.{Event}
-use Rattle.common.specs.Tools.{both-left, both-right}
-use Rattle.stories.specs.Story.{Which, happens}
+use Rattle.stories.specs.Story.{Which, happens, throughout, throughout-holds}
 use Rattle.stories.specs.Sent.{ticksBy}
-use Rattle.stories.specs.Received.{Role, Hears, Reads, Else, role}
+use Rattle.stories.specs.Received.{ToReceiver, Hears, Reads, Else, toReceiver}
 use Rattle.history.specs.Sending.Side.{SenderSide}
 use Rattle.timely.specs.Free.{Free}
 use Rattle.history.specs.Receiving.Quiet.{quiet, quiet-keeps}
@@ -38,27 +37,22 @@ free-runs w (hosts.writes {c = c} {v = v} f) =
 free-runs w (hosts.ticking f) = stated.ticking (free-runs w f)
 
 -- a receiver that hears and is read as it comes
-abbrev pub heeds : Which → Chip → Event → Role → Bool
+abbrev pub heeds : Which → Chip → Event → ToReceiver → Bool
 heeds u r e (Hears b) = true
 heeds u r e Reads = true
 heeds u r e Else = quiet u r e
 
-unfoldable pub attending : Which → Chip → List Event → Bool
-attending u r [] = true
-attending u r (e ∷ st) = heeds u r e (role u e) && attending u (happens r e .chip) st
+abbrev pub attending : Which → Chip → List Event → Bool
+attending u r st = throughout (λ d e. heeds u d e (toReceiver u e)) r st
 
-one-more : (u : Which) (r : Chip) (e : Event) (st : List Event) (x : Role) → role u e ≡ x
-    → heeds u r e x ≡ true
+one-more : (u : Which) (r : Chip) (e : Event) (st : List Event) (x : ToReceiver)
+    → toReceiver u e ≡ x → heeds u r e x ≡ true
     → Attends u (happens r e .chip) st → Attends u r (e ∷ st)
 one-more u r e st (Hears b) q a h = stated.hears q h
 one-more u r e st Reads q a h = stated.reads q h
 one-more u r e st Else q a h = stated.still q (quiet-keeps u r e a) h
 
 pub attends-of : (u : Which) (r : Chip) (st : List Event) → attending u r st ≡ true → Attends u r st
-unfolding attending
-attends-of u r [] t = stated.over
-attends-of u r (e ∷ st) t =
-    let x = role u e in
-    let d = happens r e .chip in
-    one-more u r e st x refl (both-left (heeds u r e x) (attending u d st) t)
-    (attends-of u d st (both-right (heeds u r e x) (attending u d st) t))
+attends-of u r st t =
+    throughout-holds (λ d e. heeds u d e (toReceiver u e)) (Attends u) (λ d. stated.over)
+    (λ d e xs. one-more u d e xs (toReceiver u e) refl) r st t

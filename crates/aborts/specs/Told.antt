@@ -23,7 +23,8 @@ use Rattle.chip.specs.Event.{Event}
 use Rattle.whole.specs.Heard.{handed, hearAll, endMarks}
 use Rattle.whole.specs.Laws.Deaf.{end-marks-join}
 use Rattle.stories.specs.Story.{Which, chan, happens, after}
-use Rattle.stories.specs.Received.{Role, role, bitIn, bitsOf, taking, tookOf}
+use Rattle.stories.specs.Received.{ToReceiver, Hears, Reads, Else, toReceiver, bitIn, bitsOf}
+use Rattle.stories.specs.Received.{taking, tookOf}
 use Rattle.history.specs.Receiving.Side.{Side, sideOf}
 use Rattle.history.specs.Receiving.Events.{queuedBy, heardSide, readSide, Follows, Hearing, follows}
 use Rattle.aborts.specs.Statement.{waitingIn, Attends, over, hears, reads, still, endsTold}
@@ -127,11 +128,11 @@ read-bound x bits = omega (arith, take-marks (x .queue))
 
 took-more : (u : Which) (r : Chip) (x : Event) (st : List Event)
     → endMarks (tookOf u r (x ∷ st))
-    ≡ endMarks (entryIf (taking u r (role u x)) (oldest (chan u r .queue))) + endMarks
+    ≡ endMarks (entryIf (taking u r (toReceiver u x)) (oldest (chan u r .queue))) + endMarks
     (tookOf u (happens r x .chip) st)
 unfolding tookOf
 took-more u r x st =
-    end-marks-join (entryIf (taking u r (role u x)) (oldest (chan u r .queue)))
+    end-marks-join (entryIf (taking u r (toReceiver u x)) (oldest (chan u r .queue)))
     (tookOf u (happens r x .chip) st)
 
 pub told-few : (u : Which) {r : Chip} {rs : List Event} → Attends u r rs
@@ -145,11 +146,11 @@ told-few u (hears {r = r} {e = x} {st = st} {b = b} p a) h =
     let i = told-few u a (subst Hearing (sym (ap (λ (y : Side). y .settings) f)) h) in
     let q : bound (sideOf u d) (bitsOf u st) ≡ bound (heardSide b (sideOf u r)) (bitsOf u st) =
     ap (λ (y : Side). bound y (bitsOf u st)) f in
-    let m : endMarks (entryIf (taking u r (role u x)) (oldest (chan u r .queue))) ≡ 0 =
-    ap (λ (y : Role). endMarks (entryIf (taking u r y) (oldest (chan u r .queue)))) p in
-    let s : bound (sideOf u r) (bitIn (role u x) ++ bitsOf u st)
+    let m : endMarks (entryIf (taking u r (toReceiver u x)) (oldest (chan u r .queue))) ≡ 0 =
+    ap (λ (y : ToReceiver). endMarks (entryIf (taking u r y) (oldest (chan u r .queue)))) p in
+    let s : bound (sideOf u r) (bitIn (toReceiver u x) ++ bitsOf u st)
     ≡ bound (sideOf u r) (b ∷ bitsOf u st) =
-    ap (λ (y : Role). bound (sideOf u r) (bitIn y ++ bitsOf u st)) p in
+    ap (λ (y : ToReceiver). bound (sideOf u r) (bitIn y ++ bitsOf u st)) p in
     omega (arith, i, q, m, s, took-more u r x st, hear-bound (sideOf u r) b (bitsOf u st))
 told-few u (reads {r = r} {e = x} {st = st} p a) h =
     let d = happens r x .chip in
@@ -157,23 +158,23 @@ told-few u (reads {r = r} {e = x} {st = st} p a) h =
     let i = told-few u a (subst Hearing (sym (ap (λ (y : Side). y .settings) f)) h) in
     let q : bound (sideOf u d) (bitsOf u st) ≡ bound (readSide (sideOf u r)) (bitsOf u st) =
     ap (λ (y : Side). bound y (bitsOf u st)) f in
-    let m : endMarks (entryIf (taking u r (role u x)) (oldest (chan u r .queue)))
+    let m : endMarks (entryIf (taking u r (toReceiver u x)) (oldest (chan u r .queue)))
     ≡ endMarks (entryIf (waits (chan u r .queue)) (oldest (chan u r .queue))) =
-    ap (λ (y : Role). endMarks (entryIf (taking u r y) (oldest (chan u r .queue)))) p in
-    let s : bound (sideOf u r) (bitIn (role u x) ++ bitsOf u st)
+    ap (λ (y : ToReceiver). endMarks (entryIf (taking u r y) (oldest (chan u r .queue)))) p in
+    let s : bound (sideOf u r) (bitIn (toReceiver u x) ++ bitsOf u st)
     ≡ bound (sideOf u r) (bitsOf u st) =
-    ap (λ (y : Role). bound (sideOf u r) (bitIn y ++ bitsOf u st)) p in
+    ap (λ (y : ToReceiver). bound (sideOf u r) (bitIn y ++ bitsOf u st)) p in
     omega (arith, i, q, m, s, took-more u r x st, read-bound (sideOf u r) (bitsOf u st))
 told-few u (still {r = r} {e = x} {st = st} p k a) h =
     let d = happens r x .chip in
     let i = told-few u a (subst Hearing (sym (ap (λ (y : Side). y .settings) k)) h) in
     let q : bound (sideOf u d) (bitsOf u st) ≡ bound (sideOf u r) (bitsOf u st) =
     ap (λ (y : Side). bound y (bitsOf u st)) k in
-    let m : endMarks (entryIf (taking u r (role u x)) (oldest (chan u r .queue))) ≡ 0 =
-    ap (λ (y : Role). endMarks (entryIf (taking u r y) (oldest (chan u r .queue)))) p in
-    let s : bound (sideOf u r) (bitIn (role u x) ++ bitsOf u st)
+    let m : endMarks (entryIf (taking u r (toReceiver u x)) (oldest (chan u r .queue))) ≡ 0 =
+    ap (λ (y : ToReceiver). endMarks (entryIf (taking u r y) (oldest (chan u r .queue)))) p in
+    let s : bound (sideOf u r) (bitIn (toReceiver u x) ++ bitsOf u st)
     ≡ bound (sideOf u r) (bitsOf u st) =
-    ap (λ (y : Role). bound (sideOf u r) (bitIn y ++ bitsOf u st)) p in
+    ap (λ (y : ToReceiver). bound (sideOf u r) (bitIn y ++ bitsOf u st)) p in
     omega (arith, i, q, m, s, took-more u r x st)
 
 -- where a story leaves what the receiver is
@@ -182,6 +183,25 @@ pub record Behind (u : Which) (r : Chip) (qs : List Event) : Type 0 where
       ≡ hearAll (sideOf u r .settings .addressing) (sideOf u r .listener) (bitsOf u qs) .listener
   pub settings : sideOf u (after r qs) .settings ≡ sideOf u r .settings
 
+-- one event more, of this role, which leaves the side so
+behind-more : (u : Which) (r : Chip) (x : Event) (qs : List Event) (y : Side) (t : ToReceiver)
+    → sideOf u (happens r x .chip) ≡ y → toReceiver u x ≡ t
+    → y .settings ≡ sideOf u r .settings
+    → hearAll (y .settings .addressing) (y .listener) (bitsOf u qs) .listener
+    ≡ hearAll (sideOf u r .settings .addressing) (sideOf u r .listener) (bitIn t ++ bitsOf u qs)
+    .listener
+    → Behind u (happens r x .chip) qs → Behind u r (x ∷ qs)
+unfolding after bitsOf
+behind-more u r x qs y t f p s e i = record {
+  listener =
+      i .listener
+      ∙ ap (λ (z : Side). hearAll (z .settings .addressing) (z .listener) (bitsOf u qs) .listener) f
+      ∙ e
+      ∙ ap (λ (z : ToReceiver). hearAll (sideOf u r .settings .addressing) (sideOf u r .listener)
+      (bitIn z ++ bitsOf u qs) .listener) (sym p);
+  settings = i .settings ∙ ap (λ (z : Side). z .settings) f ∙ s;
+}
+
 pub attends-front : (u : Which) {r : Chip} (qs : List Event) {rs : List Event}
     → Attends u r (qs ++ rs) → Hearing (sideOf u r .settings)
     → Behind u r qs × Attends u (after r qs) rs
@@ -189,44 +209,16 @@ unfolding after bitsOf hearAll
 attends-front u [] a h = (record { listener = refl; settings = refl }, a)
 attends-front u {r} (x ∷ qs) (hears {b = b} p a) h =
     let d = happens r x .chip in
-    let f : sideOf u d ≡ heardSide b (sideOf u r) = subst (Follows u r d) p (follows u r x h) in
-    let i = attends-front u qs a (subst Hearing (sym (ap (λ (y : Side). y .settings) f)) h) in (
-      record {
-        listener =
-            i .0 .listener
-            ∙ ap (λ (y : Side). hearAll (y .settings .addressing) (y .listener)
-            (bitsOf u qs) .listener) f
-            ∙ ap (λ (y : Role). hearAll (sideOf u r .settings .addressing) (sideOf u r .listener)
-            (bitIn y ++ bitsOf u qs) .listener) (sym p);
-        settings = i .0 .settings ∙ ap (λ (y : Side). y .settings) f;
-      },
-      i .1,
-    )
+    let y = heardSide b (sideOf u r) in
+    let f : sideOf u d ≡ y = subst (Follows u r d) p (follows u r x h) in
+    let i = attends-front u qs a (subst Hearing (sym (ap (λ (z : Side). z .settings) f)) h) in
+    (behind-more u r x qs y (Hears b) f p refl refl (i .0), i .1)
 attends-front u {r} (x ∷ qs) (reads p a) h =
     let d = happens r x .chip in
-    let f : sideOf u d ≡ readSide (sideOf u r) = subst (Follows u r d) p (follows u r x h) in
-    let i = attends-front u qs a (subst Hearing (sym (ap (λ (y : Side). y .settings) f)) h) in (
-      record {
-        listener =
-            i .0 .listener
-            ∙ ap (λ (y : Side). hearAll (y .settings .addressing) (y .listener)
-            (bitsOf u qs) .listener) f
-            ∙ ap (λ (y : Role). hearAll (sideOf u r .settings .addressing) (sideOf u r .listener)
-            (bitIn y ++ bitsOf u qs) .listener) (sym p);
-        settings = i .0 .settings ∙ ap (λ (y : Side). y .settings) f;
-      },
-      i .1,
-    )
+    let y = readSide (sideOf u r) in
+    let f : sideOf u d ≡ y = subst (Follows u r d) p (follows u r x h) in
+    let i = attends-front u qs a (subst Hearing (sym (ap (λ (z : Side). z .settings) f)) h) in
+    (behind-more u r x qs y Reads f p refl refl (i .0), i .1)
 attends-front u {r} (x ∷ qs) (still p k a) h =
-    let i = attends-front u qs a (subst Hearing (sym (ap (λ (y : Side). y .settings) k)) h) in (
-      record {
-        listener =
-            i .0 .listener
-            ∙ ap (λ (y : Side). hearAll (y .settings .addressing) (y .listener)
-            (bitsOf u qs) .listener) k
-            ∙ ap (λ (y : Role). hearAll (sideOf u r .settings .addressing) (sideOf u r .listener)
-            (bitIn y ++ bitsOf u qs) .listener) (sym p);
-        settings = i .0 .settings ∙ ap (λ (y : Side). y .settings) k;
-      },
-      i .1,
-    )
+    let i = attends-front u qs a (subst Hearing (sym (ap (λ (z : Side). z .settings) k)) h) in
+    (behind-more u r x qs (sideOf u r) Else k p refl refl (i .0), i .1)

@@ -7,7 +7,7 @@ use mathlib.Core.List.{List, [], _∷_, _++_}
 use Prim.Native.Nat.{ℕ}
 use Rattle.chip.specs.Computing.{computing}
 use Rattle.chip.specs.Event.{Event, Receive, SetLines}
-use Rattle.tales.specs.Tale.{after, times, digits, reads}
+use Rattle.tales.specs.Tale.{chipBehind, times, digits, reads}
 use Rattle.tales.specs.Words.{command, set, sendAbort, resetStatus, clearUnderrun, oneStop, sdlc}
 use Rattle.tales.specs.Words.{hearing, framing, blank, flag, ones}
 use Rattle.asking.specs.Happens.{happens}
@@ -57,7 +57,7 @@ pub record Told : Type 0 where
   pub abort-stays : reads happens (opened ++ ones 0 7 ++ afresh) 0 0 ≡ 0xC4
 
 pub told : Told
-unfolding computing after times digits
+unfolding computing chipBehind times digits
 told = record {
   dcd-rises = refl;
   cts-rises = refl;

@@ -5,7 +5,7 @@ use mathlib.Core.List.{List, [], _∷_, _++_}
 use Prim.Native.Nat.{ℕ}
 use Rattle.chip.specs.Computing.{computing}
 use Rattle.chip.specs.Event.{Event, SetLines}
-use Rattle.tales.specs.Tale.{after, times, digits, reads}
+use Rattle.tales.specs.Tale.{chipBehind, times, digits, reads}
 use Rattle.tales.specs.Words.{command, set, writes, takes, ticks, arm, resetTransmit, oneStop}
 use Rattle.tales.specs.Words.{hearing, sending, char41, cut41}
 use Rattle.asking.specs.Happens.{happens}
@@ -49,7 +49,7 @@ pub record Told : Type 0 where
   pub no-external-without-d0 : reads happens (carrier 0) 0 0 ≡ 0x4C
 
 pub told : Told
-unfolding computing after times digits
+unfolding computing chipBehind times digits
 told = record {
   none-by-mode-0 = refl;
   all-by-mode-3 = refl;

@@ -4,7 +4,7 @@ use mathlib.Core.List.{List, [], _∷_, _++_}
 use Prim.Native.Nat.{_+_}
 use Rattle.chip.specs.Computing.{computing}
 use Rattle.chip.specs.Event.{Event, SetLines, Acknowledge, Reti}
-use Rattle.tales.specs.Tale.{after, times, digits, reads, refusal, vector}
+use Rattle.tales.specs.Tale.{chipBehind, times, digits, reads, refusal, vector}
 use Rattle.tales.specs.Words.{command, set, writes, ticks, resetStatus, asReti, clearUnderrun}
 use Rattle.tales.specs.Words.{oneStop, sending}
 use Rattle.asking.specs.Happens.{happens}
@@ -51,7 +51,7 @@ pub record Told : Type 0 where
   pub d6-with-7 : reads happens (command 0 (asReti + clearUnderrun)) 0 0 ≡ 0x04
 
 pub told : Told
-unfolding computing after times digits
+unfolding computing chipBehind times digits
 told = record {
   taken = refl;
   left-pending = refl;

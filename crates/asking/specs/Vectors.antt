@@ -4,7 +4,7 @@ use mathlib.Core.List.{List, [], _∷_, _++_}
 use Prim.Native.Nat.{ℕ}
 use Rattle.chip.specs.Computing.{computing}
 use Rattle.chip.specs.Event.{Event, SetLines, Acknowledge}
-use Rattle.tales.specs.Tale.{after, times, digits, reads, vector}
+use Rattle.tales.specs.Tale.{chipBehind, times, digits, reads, vector}
 use Rattle.tales.specs.Words.{set, writes, takes, ticks, oneStop, sdlc, hearing}
 use Rattle.tales.specs.Words.{sending, sendEight, char41, frame00}
 use Rattle.asking.specs.Happens.{happens}
@@ -65,7 +65,7 @@ pub record Told : Type 0 where
   pub d1-in-service : reads happens (carrier 0 0b1 ++ (Acknowledge ∷ [])) 0 0 ≡ 0x4E
 
 pub told : Told
-unfolding computing after times digits
+unfolding computing chipBehind times digits
 told = record {
   b-transmit = refl;
   b-external = refl;

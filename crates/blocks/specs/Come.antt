@@ -119,11 +119,11 @@ pub data Act : Type 0 where
   Tick : Act
   Write : ℕ → Act
 
-unfoldable pub lineOf : Syncing → Sends → List Act → List Bool
-lineOf g s [] = []
-lineOf g s (Tick ∷ acts) =
-    tickBlock g (s .unit) (s .shared) .bit ∷ lineOf g (ticked g s) acts
-lineOf g s (Write v ∷ acts) = lineOf g (filledWith s v) acts
+unfoldable pub actsLine : Syncing → Sends → List Act → List Bool
+actsLine g s [] = []
+actsLine g s (Tick ∷ acts) =
+    tickBlock g (s .unit) (s .shared) .bit ∷ actsLine g (ticked g s) acts
+actsLine g s (Write v ∷ acts) = actsLine g (filledWith s v) acts
 
 unfoldable pub ticks : List Act → ℕ
 ticks [] = 0

@@ -18,7 +18,7 @@ use Rattle.bytesync.specs.Hearing.{arrived, assembling, hearBlock}
 use Rattle.shared.specs.Preset.{zeros}
 use Rattle.blocks.specs.Check.{checkFrom, checkBytes}
 use Rattle.blocks.specs.Heard.{Moment, final, hearAll, along, entriesOf}
-use Rattle.blocks.specs.Come.{sends, closed, blockBits, Act, Tick, Write, lineOf}
+use Rattle.blocks.specs.Come.{sends, closed, blockBits, Act, Tick, Write, actsLine}
 
 abbrev digits : List ℕ
 digits = 0x31 ∷ 0x32 ∷ 0x33 ∷ 0x34 ∷ 0x35 ∷ 0x36 ∷ 0x37 ∷ 0x38 ∷ 0x39 ∷ []
@@ -69,7 +69,7 @@ story =
     Write 0x41 ∷ (replicate 16 Tick ++
     (Write 0x42 ∷ (replicate 9 Tick ++ (Write 0xFF ∷ replicate 31 Tick))))
 
-pub mono-sent : lineOf sending (sends Mark (shared 0 false false zeros)) story
+pub mono-sent : actsLine sending (sends Mark (shared 0 false false zeros)) story
     ≡ blockBits sending (0x41 ∷ 0x42 ∷ []) (0xFF ∷ [])
-unfolding lineOf tickBlock following closed textBits lowBits topBits checkOver checkStep
+unfolding actsLine tickBlock following closed textBits lowBits topBits checkOver checkStep
 mono-sent = refl

@@ -28,9 +28,9 @@ does s (Hears g b) =
     let h = hearBlock g (s .reception) (s .check) b in state (h .reception) (h .check)
 does s Searches = state (searching true) (s .check)
 
-unfoldable pub after : State → List Doing → State
-after s [] = s
-after s (x ∷ xs) = after (does s x) xs
+unfoldable pub stateBehind : State → List Doing → State
+stateBehind s [] = s
+stateBehind s (x ∷ xs) = stateBehind (does s x) xs
 
 -- What was heard: a character complete, with WR3 D3 and the polynomial on that tick; or hunt, in
 -- which nothing waits to enter the check; or neither

@@ -11,7 +11,7 @@ use Rattle.line.specs.Frame.{withCheck}
 use Rattle.chip.specs.Computing.{computing}
 use Rattle.chip.specs.Event.{Event, DataRead}
 use Rattle.whole.specs.Start.{flagHead}
-use Rattle.stories.specs.Story.{A, B, after}
+use Rattle.stories.specs.Story.{A, B, after, throughout}
 use Rattle.stories.specs.Sent.{lineOf, ticks}
 use Rattle.stories.specs.Received.{bitsOf}
 use Rattle.stories.specs.Sending.{times, begin, noisy}
@@ -39,9 +39,16 @@ pub record Examples : Type 0 where
   pub bits : bitsOf B (hears (sent noisy)) ≡ sent noisy
 
 pub examples : Examples
-unfolding computing inRoom bitsOf story times lineOf after
+unfolding computing throughout bitsOf story times lineOf after
 examples = record {
-  listens = record { mode = refl; on = refl; search = refl; empty = refl; three = refl; start = in-hunt refl };
+  listens = record {
+    mode = refl;
+    on = refl;
+    search = refl;
+    empty = refl;
+    three = refl;
+    start = in-hunt refl;
+  };
   room = refl;
   bits = refl;
 }

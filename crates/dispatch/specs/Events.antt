@@ -1,14 +1,13 @@
 -- What a tick and a data write do to the sender's side, and which bit a tick gives. Assumes
 -- nothing.
 use mathlib.Core.Path.{_≡_, refl, ap, _∙_}
-use mathlib.Core.Bool.{Bool, true, false}
+use mathlib.Core.Bool.{Bool, true}
 use mathlib.Core.List.{[], _∷_}
 use Prim.Native.Nat.{ℕ}
 use Rattle.common.specs.Mode.{inBlocks}
 use Rattle.common.specs.Tools.{void}
 use Rattle.common.specs.declared.Mode.{Mode}
 use Rattle.common.specs.declared.Mode.the-variants.{NoMode, Asynchronous, Monosync, Bisync, Sdlc}
-use Rattle.line.specs.Bits.{oneIf}
 use Rattle.bytesync.specs.declared.Synced.{Synced}
 use Rattle.bytesync.specs.Sending.{tickBlock}
 use Rattle.blocks.specs.Come.{sends, ticked, filledWith}
@@ -19,11 +18,12 @@ use Rattle.sender.specs.Sender.{bySyncing, withBreak, tickInBlocks, tickIn, tic
 use Rattle.channel.specs.Channel.{settled}
 use Rattle.channel.specs.Events.{transmitTick}
 use Rattle.chip.specs.declared.Chip.{Chip}
-use Rattle.chip.specs.Chip.{onLevel, dataWriteCall, transmitCall}
+use Rattle.chip.specs.Chip.{dataWriteCall, transmitCall}
 use Rattle.chip.specs.Event.{DataWrite, Transmit}
 use Rattle.stories.specs.Story.{Which, A, B, number, chan, happens}
 use Rattle.stories.specs.Sent.{isTick, lineBit}
 use Rattle.history.specs.Sending.Side.{sendingIn}
+use Rattle.history.specs.Sending.Events.{tick-gives}
 use Rattle.dispatch.specs.Side.{Good, SenderSide, side, sideOf}
 
 tick-blocks : (g : Sending) (s : Sender) → inBlocks (g .mode) ≡ true → tick g s ≡ tickInBlocks g s
@@ -63,19 +63,6 @@ pub tick-side : (w : Which) (c : Chip) → Good (sideOf w c .heeds)
     sideOf w (happens c (Transmit (number w)) .chip)
     ≡ side (ticked (x .heeds .syncing) (x .sender)) (x .heeds)
 tick-side w c h = ticks-to w c ∙ ap (ticksTo w c) (tick-syncs w c h)
-
-level-bit : (b : Bool) → onLevel (oneIf b) ≡ b
-level-bit true = refl
-level-bit false = refl
-
-tick-gives : (w : Which) (c : Chip)
-    → lineBit (isTick w (Transmit (number w))) (happens c (Transmit (number w)) .answer)
-    ≡ tick (sendingIn (chan w c)) (chan w c .sender) .bit ∷ []
-unfolding transmitCall transmitTick
-tick-gives A c =
-    ap (λ (b : Bool). b ∷ []) (level-bit (tick (sendingIn (c .a)) (c .a .sender) .bit))
-tick-gives B c =
-    ap (λ (b : Bool). b ∷ []) (level-bit (tick (sendingIn (c .b)) (c .b .sender) .bit))
 
 pub tick-bit : (w : Which) (c : Chip) → Good (sideOf w c .heeds)
     → lineBit (isTick w (Transmit (number w))) (happens c (Transmit (number w)) .answer)

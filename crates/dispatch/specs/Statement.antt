@@ -14,7 +14,7 @@ use Rattle.blocks.specs.Come.{syncBits, inTime, syncLength, syncHead, blockBits
 use Rattle.chip.specs.declared.Chip.{Chip}
 use Rattle.chip.specs.Event.{Event, ControlWrite, DataWrite, Transmit}
 use Rattle.stories.specs.Story.{Which, number, chan, happens, after}
-use Rattle.stories.specs.Sent.{Else, role, lineOf, ticks, d6}
+use Rattle.stories.specs.Sent.{Else, toSender, lineOf, ticks, d6}
 use Rattle.history.specs.Sending.Side.{fullOf, latchOf}
 use Rattle.dispatch.specs.Side.{Good, sideOf, syncingOf}
 
@@ -41,7 +41,7 @@ pub record Start (w : Which) (c : Chip) (p : ℕ) : Type 0 where
 pub data InTime (w : Which) (left more : List ℕ) : Chip → List ℕ → List ℕ → List Event
     → Type 0 where
   over : {c : Chip} → InTime w left more c left more []
-  still : {c : Chip} {rest tail : List ℕ} {e : Event} {st : List Event} → role w e ≡ Else
+  still : {c : Chip} {rest tail : List ℕ} {e : Event} {st : List Event} → toSender w e ≡ Else
       → sideOf w (happens c e .chip) ≡ sideOf w c
       → InTime w left more (happens c e .chip) rest tail st
       → InTime w left more c rest tail (e ∷ st)

@@ -11,7 +11,7 @@ use Rattle.blocks.specs.Come.{inTime}
 use Rattle.chip.specs.declared.Chip.{Chip}
 use Rattle.chip.specs.Event.{Event, DataWrite}
 use Rattle.stories.specs.Story.{Which, number, happens}
-use Rattle.stories.specs.Sent.{Role, Ticks, Writes, Else, role}
+use Rattle.stories.specs.Sent.{ToSender, Ticks, Writes, Else, toSender}
 use Rattle.history.specs.Sending.Side.{fullOf, latchOf, View, its-tick, its-write, other, view}
 use Rattle.dispatch.specs.Side.{sideOf}
 use Rattle.dispatch.specs.Statement.{InTime, over, still, writes, writes-behind, ticking}
@@ -24,7 +24,7 @@ isNext full b (v ∷ vs) = eqb b v && not full
 
 -- a tick that does not come too early; the next byte of the block or, once the latch is set, behind
 -- its check; nothing else that touches the sender
-abbrev pub allowed : Which → Chip → List ℕ → List ℕ → Event → Role → Bool
+abbrev pub allowed : Which → Chip → List ℕ → List ℕ → Event → ToSender → Bool
 allowed w c rest tail e Ticks = inTime (sideOf w c .sender) rest tail
 allowed w c rest tail e (Writes b) = isNext (fullOf w c) b (if latchOf w c then tail else rest)
 allowed w c rest tail e Else = quiet w c e
@@ -33,12 +33,12 @@ abbrev pub behindFirst : List ℕ → List ℕ
 behindFirst [] = []
 behindFirst (v ∷ vs) = vs
 
-abbrev pub restAfter : Role → Bool → List ℕ → List ℕ
+abbrev pub restAfter : ToSender → Bool → List ℕ → List ℕ
 restAfter Ticks latch rest = rest
 restAfter (Writes b) latch rest = if latch then rest else behindFirst rest
 restAfter Else latch rest = rest
 
-abbrev pub tailAfter : Role → Bool → List ℕ → List ℕ
+abbrev pub tailAfter : ToSender → Bool → List ℕ → List ℕ
 tailAfter Ticks latch tail = tail
 tailAfter (Writes b) latch tail = if latch then behindFirst tail else tail
 tailAfter Else latch tail = tail
@@ -50,9 +50,9 @@ none (v ∷ vs) = false
 unfoldable pub timely : Which → Chip → List ℕ → List ℕ → List Event → Bool
 timely w c rest tail [] = none rest && none tail
 timely w c rest tail (e ∷ st) =
-    allowed w c rest tail e (role w e)
-    && timely w (happens c e .chip) (restAfter (role w e) (latchOf w c) rest)
-    (tailAfter (role w e) (latchOf w c) tail) st
+    allowed w c rest tail e (toSender w e)
+    && timely w (happens c e .chip) (restAfter (toSender w e) (latchOf w c) rest)
+    (tailAfter (toSender w e) (latchOf w c) tail) st
 
 -- a write, by the latch
 write-more : (w : Which) (c : Chip) (rest tail : List ℕ) (b : ℕ) (st : List Event) (l : Bool)
@@ -72,8 +72,8 @@ write-more w c (v ∷ rest) tail b st false e a i =
     let f = not-true (fullOf w c) (both-right (eqb b v) (not (fullOf w c)) a) in
     rw (← p) (writes f i)
 
-one-more : (w : Which) (c : Chip) (rest tail : List ℕ) (e : Event) (st : List Event) (r : Role)
-    → View w e r → role w e ≡ r → allowed w c rest tail e r ≡ true
+one-more : (w : Which) (c : Chip) (rest tail : List ℕ) (e : Event) (st : List Event) (r : ToSender)
+    → View w e r → toSender w e ≡ r → allowed w c rest tail e r ≡ true
     → InTime w [] [] (happens c e .chip) (restAfter r (latchOf w c) rest)
     (tailAfter r (latchOf w c) tail) st → InTime w [] [] c rest tail (e ∷ st)
 one-more w c rest tail _ st Ticks its-tick q a i = ticking a i
@@ -92,9 +92,10 @@ pub in-time : (w : Which) (c : Chip) (rest tail : List ℕ) (st : List Event)
 unfolding timely
 in-time w c rest tail [] t = all-none w c rest tail t
 in-time w c rest tail (e ∷ st) t =
-    let a = allowed w c rest tail e (role w e) in
+    let r = toSender w e in
+    let a = allowed w c rest tail e r in
     let l = latchOf w c in
     let d = happens c e .chip in
-    let n = timely w d (restAfter (role w e) l rest) (tailAfter (role w e) l tail) st in
-    one-more w c rest tail e st (role w e) (view w e) refl (both-left a n t)
-    (in-time w d (restAfter (role w e) l rest) (tailAfter (role w e) l tail) st (both-right a n t))
+    let n = timely w d (restAfter r l rest) (tailAfter r l tail) st in
+    one-more w c rest tail e st r (view w e) refl (both-left a n t)
+    (in-time w d (restAfter r l rest) (tailAfter r l tail) st (both-right a n t))

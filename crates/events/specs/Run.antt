@@ -82,14 +82,14 @@ unfoldable pub numbersLeft : ℕ → Outcome → Line → Line
 numbersLeft zero o l = l
 numbersLeft (suc n) o l = numbersLeft n o (numbered l (shown o (7 - suc n)) (behind (suc n)))
 
-unfoldable pub lineOf : Outcome → Line
-lineOf o = numbersLeft 7 o emptyLine
+unfoldable pub toldLine : Outcome → Line
+toldLine o = numbersLeft 7 o emptyLine
 
 abbrev pub telling : Line → Chip → ℕ → Told
 telling l c at = record { line = l; chip = c; at = at }
 
 unfoldable pub played : Outcome → ℕ → Told
-played o at = telling (lineOf o) (o .chip) at
+played o at = telling (toldLine o) (o .chip) at
 
 -- the next line, with its event played; behind the last line every byte is behind
 abbrev pub tell : Chip → List ℕ → ℕ → Found → Told

@@ -5,7 +5,8 @@ use chip::Outcome;
 use text::Line;
 ghost use mathlib.Core.Path.{_≡_};
 ghost use denote.Ref.{now};
-ghost use Rattle.events.specs.Run.{foundAt, lastLine, behind, lineOf, telling, played, next};
+ghost use Rattle.events.specs.Run.{foundAt, lastLine, behind, toldLine};
+ghost use Rattle.events.specs.Run.{telling, played, next};
 
 // An event's code and arguments, and the place behind it.
 pub struct Event {
@@ -101,8 +102,8 @@ fn behind(left: u8) -> u8
 }
 
 // An event's line.
-fn line_of(o: Outcome) -> Line
-    ensures { λ r. ⌜ r ≡ lineOf o ⌝ }
+fn told_line(o: Outcome) -> Line
+    ensures { λ r. ⌜ r ≡ toldLine o ⌝ }
 {
     let mut l = Line::empty();
     let mut left: u8 = 7;
@@ -126,7 +127,7 @@ fn telling(l: Line, c: Chip, at: usize) -> Told
 fn played(o: Outcome, at: usize) -> Told
     ensures { λ r. ⌜ r ≡ played o at ⌝ }
 {
-    telling(line_of(o), o.chip, at)
+    telling(told_line(o), o.chip, at)
 }
 
 // The next line of a run, with its event played; behind the last there is nothing more.

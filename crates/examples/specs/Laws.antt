@@ -9,11 +9,13 @@ use Rattle.notes.specs.NoteList.{readFrom, restFrom, readList}
 use Rattle.head.specs.NoteHead.{headOf}
 use Rattle.chip.specs.Computing.{computing}
 use Rattle.report.specs.Report.{rowsFrom}
-use Rattle.examples.specs.Run.{after, given, ticks, heard, wired, digits}
+use Rattle.tales.specs.Tale.{chipBehind, given, times, digits}
+use Rattle.examples.specs.Run.{wired}
 use Rattle.examples.specs.Examples.{Example, examples}
 
 pub marked-examples : map (λ (e : Example). e .gives) examples
     ≡ map (λ (e : Example). e .says) examples
 unfolding
-    computing cells zeros readList restFrom readFrom headOf rowsFrom after given ticks heard wired digits
+    computing cells zeros readList restFrom readFrom headOf rowsFrom chipBehind given times
+    wired digits
 marked-examples = refl

@@ -16,14 +16,14 @@ use Rattle.chip.specs.declared.Chip.{Chip}
 use Rattle.chip.specs.Chip.{hardReset}
 use Rattle.chip.specs.Event.{Event, ControlWrite, ControlRead, DataWrite, DataRead, Transmit}
 use Rattle.chip.specs.Event.{Receive, SetLines, Acknowledge, Reti}
-use Rattle.stories.specs.Story.{A, after}
+use Rattle.stories.specs.Story.{A, after, throughout}
 use Rattle.stories.specs.Received.{bitsOf}
 use Rattle.stories.specs.Receiving.{story}
 use Rattle.stories.specs.Calls.{set}
 use Rattle.terminals.specs.Side.{sideOf, momentsOf}
 use Rattle.terminals.specs.Statement.{Listening, matchingOf, BlockFed, Received}
 use Rattle.terminals.specs.Statement.{rr1D6}
-use Rattle.terminals.specs.Room.{inRoom, fed}
+use Rattle.terminals.specs.Room.{fed}
 use Rattle.terminals.specs.Demand.{block-received, flip-seen}
 
 -- from a hard reset: Monosync, WR7, CRC-16, on with leading syncs kept out, the check preset
@@ -79,7 +79,7 @@ pub record Examples : Type 0 where
 
 pub examples : Examples
 unfolding
-    computing inRoom bitsOf momentsOf endsOf furtherSyncs checkBytes story after
+    computing throughout bitsOf momentsOf endsOf furtherSyncs checkBytes story after
 examples = record {
   listens = record {
     mode = refl;

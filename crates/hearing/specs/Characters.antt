@@ -7,7 +7,7 @@ use mathlib.Core.List.{List, [], _∷_, _++_}
 use Prim.Native.Nat.{ℕ}
 use Rattle.chip.specs.Computing.{computing}
 use Rattle.chip.specs.Event.{Event, SetLines}
-use Rattle.tales.specs.Tale.{after, given, times, digits, reads, bytes}
+use Rattle.tales.specs.Tale.{chipBehind, given, times, digits, reads, bytes}
 use Rattle.tales.specs.Words.{command, set, hears, takes, resetStatus, oneStop, twoStops, oddParity}
 use Rattle.tales.specs.Words.{evenParity, hearEight, hearing, char41, cut41, blank, ones}
 use Rattle.hearing.specs.Happens.{happens}
@@ -100,7 +100,7 @@ pub record Told : Type 0 where
       ≡ 0x4C
 
 pub told : Told
-unfolding computing after given times digits
+unfolding computing chipBehind given times digits
 told = record {
   eight-bits = refl;
   seven-bits = refl;

@@ -6,7 +6,7 @@ use mathlib.Core.Path.{_≡_, refl}
 use mathlib.Core.List.{List, [], _∷_, _++_}
 use Rattle.chip.specs.Computing.{computing}
 use Rattle.chip.specs.Event.{Event}
-use Rattle.tales.specs.Tale.{after, given, times, digits, reads, bytes}
+use Rattle.tales.specs.Tale.{chipBehind, given, times, digits, reads, bytes}
 use Rattle.tales.specs.Words.{command, hears, takes, ones, errorReset, oneStop, oddParity, hearing}
 use Rattle.tales.specs.Words.{char41, cut41}
 use Rattle.hearing.specs.Happens.{happens}
@@ -49,7 +49,7 @@ pub record Told : Type 0 where
       reads happens (hearing 0 oneStop ++ cut41 0 ++ ones 0 1 ++ char41 0 ++ takes 0 1) 0 1 ≡ 0x01
 
 pub told : Told
-unfolding computing after given times digits
+unfolding computing chipBehind given times digits
 told = record {
   replaced = refl;
   overrun = refl;

@@ -5,7 +5,7 @@ use mathlib.Core.List.{List, [], _∷_, _++_}
 use Prim.Native.Nat.{ℕ}
 use Rattle.chip.specs.Computing.{computing}
 use Rattle.chip.specs.Event.{Event}
-use Rattle.tales.specs.Tale.{after, given, times, digits, reads, bytes}
+use Rattle.tales.specs.Tale.{chipBehind, given, times, digits, reads, bytes}
 use Rattle.tales.specs.Words.{command, set, hears, takes, resetStatus, presetReceived}
 use Rattle.tales.specs.Words.{sdlc, hearEight}
 use Rattle.tales.specs.Words.{hearing, flag, ones, frame00}
@@ -104,7 +104,7 @@ pub record Told : Type 0 where
       ≡ 0xC7
 
 pub told : Told
-unfolding computing after given times digits
+unfolding computing chipBehind given times digits
 told = record {
   values = refl;
   good-end = refl;

@@ -1,3 +1,5 @@
 pub mod Sound
+pub mod Tools
+pub mod Quiet
 pub mod Sending
 pub mod Receiving

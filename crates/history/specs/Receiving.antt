@@ -1,5 +1,5 @@
 -- The receiving side of a channel, and what events do to it.
 pub mod Side
+pub mod Roles
 pub mod Events
-pub mod Tools
 pub mod Quiet

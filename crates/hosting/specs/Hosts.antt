@@ -4,7 +4,7 @@ use mathlib.Core.List.{List, _++_}
 use Prim.Native.Nat.{ℕ}
 use Rattle.chip.specs.Computing.{computing}
 use Rattle.chip.specs.Event.{Event}
-use Rattle.tales.specs.Tale.{after, given, times, digits, reads, line}
+use Rattle.tales.specs.Tale.{chipBehind, given, times, digits, reads, line}
 use Rattle.tales.specs.Words.{command, hears, writes, takes, ticks, sendAbort, presetSent}
 use Rattle.tales.specs.Words.{clearUnderrun}
 use Rattle.tales.specs.Words.{sdlc, hearing, framing, flag, ones}
@@ -52,7 +52,7 @@ pub record Told : Type 0 where
   pub one-flag : line happens nextNote 0 32 ≡ digits 32 0b00000000000111100000111101111110
 
 pub told : Told
-unfolding computing after given times digits
+unfolding computing chipBehind given times digits
 told = record {
   behind-mark = refl;
   ninth-loaded = refl;

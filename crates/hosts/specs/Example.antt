@@ -8,7 +8,7 @@ use Rattle.line.specs.Frame.{frame}
 use Rattle.chip.specs.Computing.{computing}
 use Rattle.chip.specs.Event.{Event, DataWrite, Transmit}
 use Rattle.whole.specs.Start.{flagHead}
-use Rattle.stories.specs.Story.{A, happens, after}
+use Rattle.stories.specs.Story.{A, happens, after, throughout}
 use Rattle.stories.specs.Sent.{lineOf}
 use Rattle.stories.specs.Sending.{times, tick, begin, dry, late, whole, choosing}
 use Rattle.timely.specs.Tests.{timely}
@@ -55,7 +55,7 @@ pub record Examples : Type 0 where
   pub late-closed : closed A (after begin whole) ≡ true
 
 pub examples : Examples
-unfolding computing timely hosting loaded passed times after
+unfolding computing timely throughout loaded passed times after
 examples = record {
   ninth-late = refl;
   ninth-hosted = refl;

@@ -13,7 +13,7 @@ use Rattle.chip.specs.declared.Chip.{Chip}
 use Rattle.chip.specs.Event.{Event, DataWrite, Transmit}
 use Rattle.whole.specs.Start.{frameEnded}
 use Rattle.stories.specs.Story.{Which, number, happens}
-use Rattle.stories.specs.Sent.{Else, role, isTick}
+use Rattle.stories.specs.Sent.{Else, toSender, isTick}
 use Rattle.history.specs.Sending.Side.{sideOf}
 
 abbrev pub senderOf : Which → Chip → Framer
@@ -72,7 +72,7 @@ closed w c = frameEnded (senderOf w c)
 -- closing flag is out; all else leaves the sender's side as it is
 pub data Host (w : Which) : Chip → List Event → Type 0 where
   rests : {c : Chip} → Host w c []
-  still : {c : Chip} {e : Event} {st : List Event} → role w e ≡ Else
+  still : {c : Chip} {e : Event} {st : List Event} → toSender w e ≡ Else
       → sideOf w (happens c e .chip) ≡ sideOf w c → Host w (happens c e .chip) st
       → Host w c (e ∷ st)
   writes : {c : Chip} {v : ℕ} {st : List Event}

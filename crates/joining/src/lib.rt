@@ -1,23 +1,14 @@
 // The checks of SDLC and of the byte-synchronous modes by one rule, of a text and of texts that are put together. Assumes nothing.
 use advance::advance;
+use bytesync::polynomial_of;
 use line::ONES;
 use line::SDLC;
 use line::check_byte;
 ghost use mathlib.Core.Path.{_≡_};
 ghost use Rattle.line.specs.Bits.{textBits};
 ghost use Rattle.line.specs.Check.{checkOver};
-ghost use Rattle.joining.specs.Rule.{polynomialBy, sdlcRule, synchronousRule, checkBy};
+ghost use Rattle.joining.specs.Rule.{sdlcRule, synchronousRule, checkBy};
 ghost use Rattle.joining.specs.Join.{joinedBy, Joins};
-
-// x^16+x^15+x^2+1.
-pub const CRC_16: u16 = 0x8005;
-
-// The polynomial that WR5 D2 chooses.
-fn polynomial_by(d2: bool) -> u16
-    ensures { λ r. ⌜ r ≡ polynomialBy d2 ⌝ }
-{
-    if d2 { CRC_16 } else { SDLC }
-}
 
 // How a check is made: its polynomial, what the register starts from, and what is turned over in it when it is sent.
 pub struct CheckRule {
@@ -38,12 +29,12 @@ impl CheckRule {
         }
     }
 
-    // That of Monosync and Bisync.
+    // That of Monosync and Bisync, over the polynomial that WR5 D2 chooses.
     pub fn synchronous(d2: bool) -> CheckRule
         ensures { λ r. ⌜ r ≡ synchronousRule d2 ⌝ }
     {
         CheckRule {
-            polynomial: polynomial_by(d2),
+            polynomial: polynomial_of(d2),
             preset: 0,
             complement: 0,
         }

@@ -7,7 +7,7 @@ use mathlib.Core.List.{List, [], _∷_, _++_, map}
 use Prim.Native.Nat.{ℕ}
 use Rattle.chip.specs.Computing.{computing}
 use Rattle.chip.specs.Event.{Event}
-use Rattle.tales.specs.Tale.{after, given, times, digits, bytes, reads}
+use Rattle.tales.specs.Tale.{chipBehind, given, times, digits, bytes, reads}
 use Rattle.tales.specs.Words.{command, set, hears, takes, presetReceived, resetStatus}
 use Rattle.laundry.specs.Happens.{happens}
 
@@ -76,7 +76,7 @@ pub record Told : Type 0 where
       ≡ 0x54
 
 pub told : Told
-unfolding computing after given times digits
+unfolding computing chipBehind given times digits
 told = record {
   good = refl;
   spoilt = refl;

@@ -6,7 +6,7 @@ use mathlib.Core.List.{List, [], _∷_, _++_, map}
 use Prim.Native.Nat.{ℕ}
 use Rattle.chip.specs.Computing.{computing}
 use Rattle.chip.specs.Event.{Event}
-use Rattle.tales.specs.Tale.{after, given, times, digits, line, reads}
+use Rattle.tales.specs.Tale.{chipBehind, given, times, digits, line, reads}
 use Rattle.tales.specs.Words.{command, set, writes, ticks, presetSent, clearUnderrun, resetStatus}
 use Rattle.laundry.specs.Happens.{happens}
 
@@ -39,7 +39,7 @@ pub record Told : Type 0 where
   pub latch-set : reads happens (cleared ++ (one ++ ticks 0 9)) 0 0 ≡ 0x50
 
 pub told : Told
-unfolding computing after given times digits
+unfolding computing chipBehind given times digits
 told = record {
   sync = refl;
   checked = refl;

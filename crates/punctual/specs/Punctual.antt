@@ -21,7 +21,7 @@ use Rattle.whole.specs.Start.{started, flagHead, frameEnded}
 use Rattle.whole.specs.Laws.Come.{takes, moves, later, too-late}
 use Rattle.whole.specs.Laws.Start.{head-length, at-start, start-stage, ended-none, unended-some}
 use Rattle.stories.specs.Story.{Which, number, chan, happens, after}
-use Rattle.stories.specs.Sent.{ticksBy, ticks}
+use Rattle.stories.specs.Sent.{ticksBy, isTick, ticks}
 use Rattle.history.specs.Sending.Side.{good, SenderSide, side, sideOf, fullOf}
 use Rattle.history.specs.Sending.Events.{tickedOf, tick-side, tick-more, write-side, write-no-tick}
 use Rattle.history.specs.Sending.Events.{skip-ticks}
@@ -89,6 +89,31 @@ record Loads (w : Which) (c : Chip) (st : List Event) (s : Framer)
   pub bytes : loaded w c st ++ meant last left ≡ meant s rest
   pub short : ticks w st + length (toCome last left) ≡ length (toCome s rest)
 
+-- a write fills the buffer
+write-there : (w : Which) (c : Chip) (v : ℕ) (s : Framer) → sideOf w c ≡ side s good
+    → sideOf w (happens c (DataWrite (number w) v) .chip) ≡ side (filledWith s v) good
+write-there w c v s e =
+    write-side w c v ∙ ap (λ (x : SenderSide). side (filledWith (x .sender) v) (x .heeds)) e
+
+-- an event that is no tick
+skip-loads : (w : Which) (c : Chip) (x : Event) (st : List Event) (s t : Framer)
+    (rest more left : List ℕ) → isTick w x ≡ false
+    → (Host w (happens c x .chip) st → Host w c (x ∷ st))
+    → toCome s rest ≡ toCome t more → meant t more ≡ meant s rest
+    → Loads w (happens c x .chip) st t more left → Loads w c (x ∷ st) s rest left
+unfolding after
+skip-loads w c x st s t rest more left z h y k m = record {
+  last = m .last;
+  since = m .since;
+  there = m .there;
+  stage = m .stage;
+  host = h (m .host);
+  none = skip-passed w c x st z ∙ m .none;
+  bytes =
+      ap (λ (b : List ℕ). b ++ meant (m .last) left) (skip-loaded w c x st z) ∙ m .bytes ∙ k;
+  short = omega (arith, skip-ticks w x st z, m .short, ap length y);
+}
+
 loads : (w : Which) {left : List ℕ} {c : Chip} {n : ℕ} {rest : List ℕ} {st : List Event}
     → InTime w left c n rest st
     → (s : Framer) → sideOf w c ≡ side s good → Stage false s n rest
@@ -107,59 +132,25 @@ loads w (over {n = n}) s e g l = record {
 }
 loads w {left} (still {c = c} {rest = rest} {e = x} {st = st} r k i) s e g l =
     let z = ap ticksBy r in
-    let m = loads w i s (k ∙ e) g (omega (arith, skip-ticks w x st z)) in
-    record {
-      last = m .last;
-      since = m .since;
-      there = m .there;
-      stage = m .stage;
-      host = hosts.still r k (m .host);
-      none = skip-passed w c x st z ∙ m .none;
-      bytes = ap (λ (b : List ℕ). b ++ meant (m .last) left) (skip-loaded w c x st z) ∙ m .bytes;
-      short = omega (arith, skip-ticks w x st z, m .short);
-    }
+    skip-loads w c x st s s rest rest left z (hosts.still r k) refl refl
+    (loads w i s (k ∙ e) g (omega (arith, skip-ticks w x st z)))
 loads w {left} (writes {c = c} {v = v} {rest = rest} {st = st} f i) s e g l =
     let q = sym (ap (λ (x : SenderSide). x .sender .shared .full) e) ∙ f in
     let y = moves g q in
     let z = write-no-tick w v in
     let x = DataWrite (number w) v in
-    let m = loads w i (filledWith s v)
-    (write-side w c v ∙ ap (λ (x : SenderSide). side (filledWith (x .sender) v) (x .heeds)) e)
-    (y .1)
-    (omega (arith, ap length (y .0), skip-ticks w x st z)) in
-    record {
-      last = m .last;
-      since = m .since;
-      there = m .there;
-      stage = m .stage;
-      host = hosts.writes (m .host);
-      none = skip-passed w c x st z ∙ m .none;
-      bytes =
-          ap (λ (b : List ℕ). b ++ meant (m .last) left) (skip-loaded w c x st z) ∙ m .bytes
-          ∙ write-meant g q;
-      short = omega (arith, skip-ticks w x st z, m .short, ap length (y .0));
-    }
+    skip-loads w c x st s (filledWith s v) (v ∷ rest) rest left z hosts.writes (y .0)
+    (write-meant g q)
+    (loads w i (filledWith s v) (write-there w c v s e) (y .1)
+    (omega (arith, ap length (y .0), skip-ticks w x st z)))
 loads w {left} (next-frame {c = c} {v = v} {st = st} f i) s e g l =
     let q = sym (ap (λ (x : SenderSide). x .sender .shared .latch) e) ∙ f in
     let y = later v g q in
     let z = write-no-tick w v in
     let x = DataWrite (number w) v in
-    let m = loads w i (filledWith s v)
-    (write-side w c v ∙ ap (λ (x : SenderSide). side (filledWith (x .sender) v) (x .heeds)) e)
-    (y .1)
-    (omega (arith, ap length (y .0), skip-ticks w x st z)) in
-    record {
-      last = m .last;
-      since = m .since;
-      there = m .there;
-      stage = m .stage;
-      host = hosts.writes (m .host);
-      none = skip-passed w c x st z ∙ m .none;
-      bytes =
-          ap (λ (b : List ℕ). b ++ meant (m .last) left) (skip-loaded w c x st z) ∙ m .bytes
-          ∙ later-meant v g q;
-      short = omega (arith, skip-ticks w x st z, m .short, ap length (y .0));
-    }
+    skip-loads w c x st s (filledWith s v) [] [] left z hosts.writes (y .0) (later-meant v g q)
+    (loads w i (filledWith s v) (write-there w c v s e) (y .1)
+    (omega (arith, ap length (y .0), skip-ticks w x st z)))
 loads w {left} (ticking {c = c} {n = n} {rest = rest} {st = st} f i) s e g l =
     let o = tick-more w st in
     let h = ap (λ (x : SenderSide). x .heeds) e in

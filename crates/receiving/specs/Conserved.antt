@@ -1,17 +1,14 @@
 -- Conservation, for any bits on the line: what was read, then what waits, is what waited before,
 -- then what was handed over. Assumes nothing.
 use mathlib.Core.Path.{_≡_, refl, sym, ap, ap₂, _∙_, subst}
-use mathlib.Core.Bool.{Bool, true, false, not, _&&_, _||_}
-use mathlib.Core.List.{List, _++_, append-assoc, append-nil}
-use lib.Dec.{ltb}
-use Rattle.common.specs.Choice.{if_then_else_}
+use mathlib.Core.Bool.{Bool, true, _&&_}
+use mathlib.Core.List.{List, _++_, append-assoc}
 use Rattle.entry.specs.declared.Entry.{Entry}
 use Rattle.queue.specs.declared.Queue.{Queue}
-use Rattle.queue.specs.Queue.{room, pushed, taken, oldest, waits}
-use Rattle.queue.specs.Laws.{push-holds, read-holds}
-use Rattle.queue.specs.Holding.{Plain, Holds, entryIf}
+use Rattle.queue.specs.Queue.{taken, oldest, waits}
+use Rattle.queue.specs.Laws.{read-holds}
+use Rattle.queue.specs.Holding.{Holds, entryIf}
 use Rattle.sdlc.specs.declared.Listener.{Listener}
-use Rattle.sdlc.specs.declared.Listened.{Listened}
 use Rattle.sdlc.specs.Hearing.{hearSdlc}
 use Rattle.sdlc.specs.Laws.Plain.{hear-plain}
 use Rattle.whole.specs.Heard.{handed, before, hearAll}
@@ -19,20 +16,11 @@ use Rattle.whole.specs.Laws.Heard.{before-join}
 use Rattle.chip.specs.declared.Chip.{Chip}
 use Rattle.chip.specs.Event.{Event}
 use Rattle.stories.specs.Story.{Which, chan, happens, after}
-use Rattle.stories.specs.Received.{Role, bitIn, bitsOf, isRead, taking, tookOf}
+use Rattle.stories.specs.Received.{ToReceiver, bitIn, bitsOf, isRead, taking, tookOf}
 use Rattle.history.specs.Receiving.Side.{Heeded, Side, side, sideOf}
 use Rattle.receiving.specs.Statement.{roomFor, Fed, over, hears, reads, still}
-use Rattle.history.specs.Receiving.Events.{queuedBy, heardSide, readSide, Follows, Hearing, follows}
-
--- the queue takes what a tick hands over
-queue-takes : {p o : Bool} {q : Queue} {es : List Entry} (h : Listened) → Holds p o q es
-    → roomFor q h ≡ true → Plain (h .entry) → Holds p o (queuedBy q h) (es ++ handed h)
-queue-takes {p} {o} {q} {es} h k r e = go (h .some) r
-  where
-    go : (t : Bool) → not t || ltb (q .count) room ≡ true
-        → Holds p o (if t then pushed q (h .entry) else q) (es ++ entryIf t (h .entry))
-    go true r = push-holds k r e
-    go false r = rw (append-nil es) k
+use Rattle.history.specs.Receiving.Events.{queuedBy, queue-takes, heardSide, readSide, Follows}
+use Rattle.history.specs.Receiving.Events.{Hearing, follows}
 
 -- at the end of a story: the side, and, whatever bits follow, the whole of what is handed over
 pub record Conserved (w : Which) (c : Chip) (st : List Event) (s : Listener) (g : Heeded)
@@ -61,10 +49,10 @@ conserved w (still {c = c} {e = x} {st = st} r k i) s q g es d e h =
       there = m .there;
       holds = m .holds;
       whole = λ rest.
-          ap (λ (r : Role). before es
+          ap (λ (r : ToReceiver). before es
           (hearAll (g .addressing) s ((bitIn r ++ bitsOf w st) ++ rest))) r
           ∙ m .whole rest
-          ∙ ap (λ (r : Role). before
+          ∙ ap (λ (r : ToReceiver). before
           ((entryIf (taking w c r) (oldest (chan w c .queue)) ++ tookOf w (happens c x .chip) st)
           ++ m .waiting) (hearAll (g .addressing) (m .last) rest)) (sym r);
     }
@@ -83,7 +71,7 @@ conserved w (reads {c = c} {e = x} {st = st} r i) s q g es d e h =
       there = m .there;
       holds = m .holds;
       whole = λ rest.
-          ap (λ (r : Role). before es
+          ap (λ (r : ToReceiver). before es
           (hearAll (g .addressing) s ((bitIn r ++ bitsOf w st) ++ rest))) r
           ∙ ap (λ (l : List Entry). before l (hearAll (g .addressing) s (bitsOf w st ++ rest)))
           (t .split)
@@ -92,7 +80,7 @@ conserved w (reads {c = c} {e = x} {st = st} r i) s q g es d e h =
           ∙ before-join n (more ++ m .waiting) (hearAll (g .addressing) (m .last) rest)
           ∙ ap (λ (l : List Entry). before l (hearAll (g .addressing) (m .last) rest))
           (sym (append-assoc n more (m .waiting)))
-          ∙ ap₂ (λ (r : Role) (y : Side). before
+          ∙ ap₂ (λ (r : ToReceiver) (y : Side). before
           ((entryIf (isRead r && waits (y .queue)) (oldest (y .queue)) ++ more) ++ m .waiting)
           (hearAll (g .addressing) (m .last) rest))
           (sym r) (sym e);
@@ -107,7 +95,7 @@ conserved w (hears {c = c} {e = x} {st = st} {b = b} r k i) s q g es d e h =
     (sym e) ∙ k in
     let m =
     conserved w i (H .listener) (queuedBy q H) g (es ++ handed H) d (f ∙ ap (heardSide b) e)
-    (queue-takes H h space (hear-plain (g .addressing) s b)) in
+    (queue-takes (H .some) (H .entry) h space (hear-plain (g .addressing) s b)) in
     record {
       last = m .last;
       queue = m .queue;
@@ -115,11 +103,11 @@ conserved w (hears {c = c} {e = x} {st = st} {b = b} r k i) s q g es d e h =
       there = m .there;
       holds = m .holds;
       whole = λ rest.
-          ap (λ (r : Role). before es
+          ap (λ (r : ToReceiver). before es
           (hearAll (g .addressing) s ((bitIn r ++ bitsOf w st) ++ rest))) r
           ∙ before-join es (handed H) (hearAll (g .addressing) (H .listener) (bitsOf w st ++ rest))
           ∙ m .whole rest
-          ∙ ap (λ (r : Role). before
+          ∙ ap (λ (r : ToReceiver). before
           ((entryIf (taking w c r) (oldest (chan w c .queue)) ++ tookOf w (happens c x .chip) st)
           ++ m .waiting) (hearAll (g .addressing) (m .last) rest)) (sym r);
     }

@@ -37,7 +37,8 @@ use Rattle.chip.specs.Interrupts.{anyPending, rr2}
 use Rattle.chip.specs.Chip.{controlReadCall}
 use Rattle.chip.specs.Event.{Event, ControlRead}
 use Rattle.stories.specs.Story.{Which, A, B, number, chan, happens, after}
-use Rattle.stories.specs.Received.{role, bitIn, bitsOf, valuesOf, tookOf, bytesOf, goodEnd, noEnd}
+use Rattle.stories.specs.Received.{toReceiver, bitIn, bitsOf, valuesOf, tookOf, bytesOf}
+use Rattle.stories.specs.Received.{goodEnd, noEnd}
 use Rattle.history.specs.Receiving.Side.{Heeded, Side, sideOf}
 use Rattle.receiving.specs.Statement.{Listening, Fed, over, hears, reads, still, Received}
 use Rattle.receiving.specs.Statement.{Demand2, Moment, Always2, Mark2, Notes2}
@@ -180,8 +181,8 @@ bits-join : (w : Which) (xs ys : List Event) → bitsOf w (xs ++ ys) ≡ bitsOf 
 unfolding bitsOf
 bits-join w [] ys = refl
 bits-join w (x ∷ xs) ys =
-    ap (λ (l : List Bool). bitIn (role w x) ++ l) (bits-join w xs ys)
-    ∙ sym (append-assoc (bitIn (role w x)) (bitsOf w xs) (bitsOf w ys))
+    ap (λ (l : List Bool). bitIn (toReceiver w x) ++ l) (bits-join w xs ys)
+    ∙ sym (append-assoc (bitIn (toReceiver w x)) (bitsOf w xs) (bitsOf w ys))
 
 pub always2 : Always2
 always2 w c xs ys note l n b f e =

@@ -16,7 +16,7 @@ use Rattle.channel.specs.declared.Answer.the-variants.{Gave}
 use Rattle.chip.specs.Computing.{computing}
 use Rattle.chip.specs.declared.Chip.{Chip}
 use Rattle.chip.specs.Event.{Event, ControlWrite, ControlRead, DataRead}
-use Rattle.stories.specs.Story.{A, chan, happens, after}
+use Rattle.stories.specs.Story.{A, chan, happens, after, throughout}
 use Rattle.stories.specs.Received.{bitsOf, valuesOf, bytesOf, goodEnd, noEnd}
 use Rattle.stories.specs.Receiving.{listening, story, noise, noisy, unread, named, unflipped}
 use Rattle.stories.specs.Receiving.{flippedLine, told}
@@ -70,9 +70,16 @@ pub record Examples : Type 0 where
   pub flipped-bits : bitsOf A flipped ≡ betweenFlags (false ∷ unflipped)
 
 pub examples : Examples
-unfolding computing inRoom bitsOf valuesOf framesOf story checkBytes after
+unfolding computing throughout bitsOf valuesOf framesOf story checkBytes after
 examples = record {
-  listens = record { mode = refl; on = refl; search = refl; empty = refl; three = refl; start = in-hunt refl };
+  listens = record {
+    mode = refl;
+    on = refl;
+    search = refl;
+    empty = refl;
+    three = refl;
+    start = in-hunt refl;
+  };
   room = refl;
   check = refl;
   all-read = refl;

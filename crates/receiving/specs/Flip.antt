@@ -1,6 +1,6 @@
 -- A frame with one bit of content or check flipped before insertion: as many characters, the end
 -- mark, a bad check. Assumes nothing.
-use mathlib.Core.Path.{_≡_, sym, ap, _∙_, subst}
+use mathlib.Core.Path.{_≡_, refl, sym, ap, _∙_, subst}
 use mathlib.Core.Bool.{Bool, true, not}
 use mathlib.Core.List.{List, _∷_, _++_}
 use Prim.Native.Nat.{ℕ, _+_, _≤_}
@@ -17,7 +17,8 @@ use Rattle.stories.specs.Story.{Which}
 use Rattle.stories.specs.Received.{bitsOf}
 use Rattle.whole.specs.Heard.{hearAll}
 use Rattle.whole.specs.Frames.{ended, betweenFlags}
-use Rattle.whole.specs.Laws.Bytes.{of-bits, flip-found}
+use Rattle.whole.specs.Laws.Bytes.{of-bits}
+use Rattle.whole.specs.Laws.Flip.{flip-found}
 use Rattle.whole.specs.Laws.Frames.{unaddressed, badIf, bytes-heard}
 use Rattle.history.specs.Receiving.Side.{sideOf}
 use Rattle.receiving.specs.Statement.{Listening, Fed, Received, Flipped2}
@@ -47,7 +48,8 @@ flipped2 w c st note xs ys b l f e h =
       length-append xs (not b ∷ ys),
     )) in
     let found =
-    flip-found ones remainder xs ys b (ap (checkOver sdlc ones) (sym e) ∙ content-good note) in
+    flip-found sdlc (omega arith) refl ones remainder xs ys b
+    (ap (checkOver sdlc ones) (sym e) ∙ content-good note) in
     let bad : badIf (checkOver sdlc ones (noteBits (k .bytes))) ≡ true =
     ap (λ (l : List Bool). badIf (checkOver sdlc ones l)) (k .are)
     ∙ ap not (ne-eqb (checkOver sdlc ones bs) remainder found) in

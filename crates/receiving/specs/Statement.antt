@@ -24,7 +24,8 @@ use Rattle.channel.specs.declared.Answer.the-variants.{Gave}
 use Rattle.chip.specs.declared.Chip.{Chip}
 use Rattle.chip.specs.Event.{Event, ControlRead}
 use Rattle.stories.specs.Story.{Which, number, chan, happens, after}
-use Rattle.stories.specs.Received.{Hears, Reads, Else, role, bitsOf, valuesOf, tookOf, bytesOf}
+use Rattle.stories.specs.Received.{Hears, Reads, Else, toReceiver, bitsOf, valuesOf, tookOf}
+use Rattle.stories.specs.Received.{bytesOf}
 use Rattle.stories.specs.Received.{goodEnd, noEnd}
 use Rattle.history.specs.Receiving.Side.{Side, sideOf}
 
@@ -51,11 +52,11 @@ roomy x b = roomFor (x .queue) (hearSdlc (x .settings .addressing) (x .listener)
 
 pub data Fed (w : Which) : Chip → List Event → Type 0 where
   over : {c : Chip} → Fed w c []
-  hears : {c : Chip} {e : Event} {st : List Event} {b : Bool} → role w e ≡ Hears b
+  hears : {c : Chip} {e : Event} {st : List Event} {b : Bool} → toReceiver w e ≡ Hears b
       → roomy (sideOf w c) b ≡ true → Fed w (happens c e .chip) st → Fed w c (e ∷ st)
-  reads : {c : Chip} {e : Event} {st : List Event} → role w e ≡ Reads → Fed w (happens c e .chip) st
-      → Fed w c (e ∷ st)
-  still : {c : Chip} {e : Event} {st : List Event} → role w e ≡ Else
+  reads : {c : Chip} {e : Event} {st : List Event} → toReceiver w e ≡ Reads
+      → Fed w (happens c e .chip) st → Fed w c (e ∷ st)
+  still : {c : Chip} {e : Event} {st : List Event} → toReceiver w e ≡ Else
       → sideOf w (happens c e .chip) ≡ sideOf w c → Fed w (happens c e .chip) st → Fed w c (e ∷ st)
 
 -- at the end of a story: what was read, followed by what waits, is this; no latch of RR1 has

@@ -6,7 +6,7 @@ use mathlib.Core.Path.{_≡_, refl}
 use mathlib.Core.List.{List, [], _∷_, _++_}
 use Rattle.chip.specs.Computing.{computing}
 use Rattle.chip.specs.Event.{Event}
-use Rattle.tales.specs.Tale.{after, given, times, digits, reads, line}
+use Rattle.tales.specs.Tale.{chipBehind, given, times, digits, reads, line}
 use Rattle.tales.specs.Words.{command, set, hears, writes, takes, ticks, ones, resetStatus}
 use Rattle.tales.specs.Words.{clearUnderrun, oneStop, oddParity, sdlc, hearEight, hearing, sending}
 use Rattle.tales.specs.Words.{framing, char41, cut41, blank}
@@ -83,7 +83,7 @@ pub record Told : Type 0 where
   pub hears-nothing : reads happens (set 0 3 hearEight ++ char41 0) 0 0 ≡ 0x44
 
 pub told : Told
-unfolding computing after given times digits
+unfolding computing chipBehind given times digits
 told = record {
   same-mode = refl;
   same-but-parity = refl;

@@ -8,7 +8,7 @@ use Prim.Native.Nat.{ℕ}
 use Rattle.channel.specs.declared.Answer.the-variants.{Gave}
 use Rattle.chip.specs.Computing.{computing}
 use Rattle.chip.specs.Event.{Event, HardReset, ControlRead, SetLines, Acknowledge}
-use Rattle.tales.specs.Tale.{after, given, times, digits, answers, refusal, reads, line}
+use Rattle.tales.specs.Tale.{chipBehind, given, times, digits, answers, refusal, reads, line}
 use Rattle.tales.specs.Words.{command, set, hears, writes, takes, ticks, channelReset, resetStatus}
 use Rattle.tales.specs.Words.{clearUnderrun, oneStop, oddParity, sdlc, hearEight, sendEight}
 use Rattle.tales.specs.Words.{hearing, sending, framing, char41, blank, flag, frame00}
@@ -85,7 +85,7 @@ pub record Told : Type 0 where
       reads happens (command 1 clearUnderrun ++ (SetLines 1 1 1 ∷ HardReset ∷ [])) 1 0 ≡ 0x44
 
 pub told : Told
-unfolding computing after given times digits
+unfolding computing chipBehind given times digits
 told = record {
   wr1-zero = refl;
   wr3-zero = refl;

@@ -17,7 +17,7 @@ use Rattle.chip.specs.Computing.{computing}
 use Rattle.chip.specs.Event.{Event, ControlWrite, DataWrite, Transmit}
 use Rattle.whole.specs.Start.{flagHead}
 use Rattle.whole.specs.Heard.{hearAll}
-use Rattle.stories.specs.Story.{A, chan, happens, after}
+use Rattle.stories.specs.Story.{A, chan, happens, after, throughout}
 use Rattle.stories.specs.Sent.{lineOf, ticks, d6, resetStatus}
 use Rattle.stories.specs.Sending.{times, tick, setUp, begin, noisy, dry, late, whole, choosing}
 use Rattle.stories.specs.Sending.{held, begun, told}
@@ -73,7 +73,7 @@ pub record Examples : Type 0 where
   pub begun-timely : timely A begin 2 (1 ∷ 2 ∷ []) begun ≡ true
 
 pub examples : Examples
-unfolding computing timely freely watching hearAll times lineOf ticks after zeros
+unfolding computing timely throughout hearAll times lineOf ticks after zeros
 examples = record {
   flag = refl;
   empty = refl;
@@ -89,7 +89,14 @@ examples = record {
   touched = refl;
   cleared = refl;
   dry-timely = refl;
-  runs-dry = record { last = 0; byte = refl; paid = refl; empty = refl; cleared = refl; settings = record { sdlc-mode = refl; on = refl; included = refl; no-break = refl } };
+  runs-dry = record {
+    last = 0;
+    byte = refl;
+    paid = refl;
+    empty = refl;
+    cleared = refl;
+    settings = record { sdlc-mode = refl; on = refl; included = refl; no-break = refl };
+  };
   unlatched = refl;
   at-wr0 = (refl, refl);
   late-free = refl;

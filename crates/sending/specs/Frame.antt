@@ -82,7 +82,8 @@ pub conserved : {a : Bool}
     → (s : Framer) → sideOf w c ≡ side s good → Stage a s n rest
     → ticks w st ≤ length (toCome s rest) → Conserved a w c st s rest left
 unfolding lineOf ticks after
-conserved w (over {n = n}) s e g l = record { last = s; since = n; there = e; stage = g; whole = refl }
+conserved w (over {n = n}) s e g l =
+    record { last = s; since = n; there = e; stage = g; whole = refl }
 conserved w {left} (still {c = c} {rest = rest} {e = x} {st = st} r k i) s e g l =
     let z = ap ticksBy r in
     skip w c x st s s rest rest left z refl

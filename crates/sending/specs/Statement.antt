@@ -14,7 +14,7 @@ use Rattle.chip.specs.Event.{Event, ControlWrite, DataWrite, Transmit}
 use Rattle.whole.specs.Come.{opens}
 use Rattle.whole.specs.Start.{flagHead}
 use Rattle.stories.specs.Story.{Which, number, chan, happens, after}
-use Rattle.stories.specs.Sent.{Else, role, lineOf, ticks, d6, resetStatus}
+use Rattle.stories.specs.Sent.{Else, toSender, lineOf, ticks, d6, resetStatus}
 use Rattle.history.specs.Sending.Side.{sendingIn, sideOf, fullOf, latchOf}
 use Rattle.timely.specs.Start.{Start}
 use Rattle.timely.specs.InTime.{InTime}
@@ -122,13 +122,14 @@ ResetShows =
 -- none of a closing flag has gone out
 pub data Watched (w : Which) : Chip → List Event → Type 0 where
   ended : {c : Chip} → Watched w c []
-  still : {c : Chip} {e : Event} {st : List Event} → role w e ≡ Else
+  still : {c : Chip} {e : Event} {st : List Event} → toSender w e ≡ Else
       → sideOf w (happens c e .chip) ≡ sideOf w c → Watched w (happens c e .chip) st
       → Watched w c (e ∷ st)
   writes : {c : Chip} {v : ℕ} {st : List Event}
       → Watched w (happens c (DataWrite (number w) v) .chip) st
       → Watched w c (DataWrite (number w) v ∷ st)
-  ticking : {c : Chip} {st : List Event} → (latchOf w c ≡ false → statusLatched w c ≡ false) → Watched w (happens c (Transmit (number w)) .chip) st
+  ticking : {c : Chip} {st : List Event} → (latchOf w c ≡ false → statusLatched w c ≡ false)
+      → Watched w (happens c (Transmit (number w)) .chip) st
       → Watched w c (Transmit (number w) ∷ st)
 
 abbrev pub NotClosed : Which → Chip → Type 0

@@ -1,16 +1,16 @@
 -- Demand 3 with the test that a reader can run, and the watchful host's test. Assumes nothing.
 use mathlib.Core.Path.{_≡_, refl, sym}
-use mathlib.Core.Bool.{Bool, true, false, not, _&&_, _||_}
-use mathlib.Core.List.{List, [], _∷_, _++_}
+use mathlib.Core.Bool.{Bool, true, false, not, _||_}
+use mathlib.Core.List.{List, _∷_, _++_}
 use Prim.Native.Nat.{ℕ, _+_, _-_, _*_}
 use lib.ListN.{length}
-use Rattle.common.specs.Tools.{void, both-left, both-right, not-true}
+use Rattle.common.specs.Tools.{void, not-true}
 use Rattle.line.specs.Frame.{frame, zerosOf}
 use Rattle.chip.specs.declared.Chip.{Chip}
 use Rattle.chip.specs.Event.{Event}
 use Rattle.whole.specs.Start.{flagHead}
-use Rattle.stories.specs.Story.{Which, happens}
-use Rattle.stories.specs.Sent.{Role, Ticks, Writes, Else, role, lineOf, ticks}
+use Rattle.stories.specs.Story.{Which, happens, throughout, throughout-holds}
+use Rattle.stories.specs.Sent.{ToSender, Ticks, Writes, Else, toSender, lineOf, ticks}
 use Rattle.history.specs.Sending.Side.{latchOf, View, its-tick, its-write, other, view}
 use Rattle.history.specs.Sending.Quiet.{quiet, quiet-keeps}
 use Rattle.timely.specs.Start.{Start}
@@ -28,32 +28,27 @@ pub demand3-tested : (w : Which) (c : Chip) (p v : ℕ) (vs : List ℕ) (st : Li
 demand3-tested w c p v vs st s t n = demand3 w c p v vs st s (in-time w c (p - 1) (v ∷ vs) st t) n
 
 -- one whose status is not latched at a tick while the latch is clear
-abbrev pub seeing : Which → Chip → Event → Role → Bool
+abbrev pub seeing : Which → Chip → Event → ToSender → Bool
 seeing w c e Ticks = latchOf w c || not (statusLatched w c)
 seeing w c e (Writes b) = true
 seeing w c e Else = quiet w c e
 
-unfoldable pub watching : Which → Chip → List Event → Bool
-watching w c [] = true
-watching w c (e ∷ st) = seeing w c e (role w e) && watching w (happens c e .chip) st
+abbrev pub watching : Which → Chip → List Event → Bool
+watching w c st = throughout (λ d e. seeing w d e (toSender w e)) c st
 
 unlatched : (l s : Bool) → l || not s ≡ true → l ≡ false → s ≡ false
 unlatched true s t e = void (sym e)
 unlatched false s t e = not-true s t
 
-one-seen : (w : Which) (c : Chip) (e : Event) (st : List Event) (r : Role) → View w e r
-    → role w e ≡ r → seeing w c e r ≡ true → Watched w (happens c e .chip) st → Watched w c (e ∷ st)
+one-seen : (w : Which) (c : Chip) (e : Event) (st : List Event) (r : ToSender) → View w e r
+    → toSender w e ≡ r → seeing w c e r ≡ true → Watched w (happens c e .chip) st
+    → Watched w c (e ∷ st)
 one-seen w c _ st Ticks its-tick q a f =
     stated.ticking (unlatched (latchOf w c) (statusLatched w c) a) f
 one-seen w c _ st (Writes b) its-write q a f = stated.writes f
 one-seen w c e st Else other q a f = stated.still q (quiet-keeps w c e a) f
 
 pub watched-of : (w : Which) (c : Chip) (st : List Event) → watching w c st ≡ true → Watched w c st
-unfolding watching
-watched-of w c [] t = stated.ended
-watched-of w c (e ∷ st) t =
-    let r = role w e in
-    one-seen w c e st r (view w e) refl
-    (both-left (seeing w c e r) (watching w (happens c e .chip) st) t)
-    (watched-of w (happens c e .chip) st
-    (both-right (seeing w c e r) (watching w (happens c e .chip) st) t))
+watched-of w c st t =
+    throughout-holds (λ d e. seeing w d e (toSender w e)) (Watched w) (λ d. stated.ended)
+    (λ d e xs. one-seen w d e xs (toSender w e) (view w e) refl) c st t

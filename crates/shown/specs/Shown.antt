@@ -39,7 +39,7 @@ use Rattle.chip.specs.Event.{Transmit, Receive, SetLines, Acknowledge, Reti}
 use Rattle.stories.specs.Story.{Which, A, B, number, chan, happens}
 use Rattle.stories.specs.Sent.{d6, resetStatus}
 use Rattle.history.specs.Sending.Side.{sendingIn, latchOf}
-use Rattle.history.specs.Sending.Quiet.{by-channel}
+use Rattle.history.specs.Quiet.{by-channel}
 use Rattle.channel.specs.declared.Side.the-variants as channels
 
 -- D6 as it is read
@@ -213,7 +213,9 @@ tick-shown B c h = settled-shown (c .b) _ h
 pub event-shown : (w : Which) (c : Chip) (e : Event) → latchOf w c ≡ true → Shows (chan w c .status)
     → latchOf w (happens c e .chip) ≡ true
     → Shows (chan w (happens c e .chip) .status)
-unfolding controlWrite controlWriteA controlReadCall dataWriteCall dataReadCall dataRead transmitCall transmitTick receiveCall receiveTick linesCall linesSet acknowledge reti
+unfolding
+    controlWrite controlWriteA controlReadCall dataWriteCall dataReadCall dataRead
+    transmitCall transmitTick receiveCall receiveTick linesCall linesSet acknowledge reti
 event-shown A c HardReset l h = λ z e. void e
 event-shown B c HardReset l h = λ z e. void e
 event-shown A c (ControlWrite ch v) l h =

@@ -7,7 +7,7 @@ use mathlib.Core.List.{List, [], _∷_, _++_}
 use Prim.Native.Nat.{ℕ}
 use Rattle.chip.specs.Computing.{computing}
 use Rattle.chip.specs.Event.{Event, SetLines}
-use Rattle.tales.specs.Tale.{after, given, times, digits, reads, line}
+use Rattle.tales.specs.Tale.{chipBehind, given, times, digits, reads, line}
 use Rattle.tales.specs.Words.{set, writes, ticks, oneStop, twoStops, oddParity}
 use Rattle.tales.specs.Words.{evenParity, sendEight}
 use Rattle.speaking.specs.Happens.{happens}
@@ -81,7 +81,7 @@ pub record Told : Type 0 where
       line happens (enables ++ (SetLines 0 0 1 ∷ []) ++ sends oneStop off 0) 0 1 ≡ 1 ∷ []
 
 pub told : Told
-unfolding computing after given times digits
+unfolding computing chipBehind given times digits
 told = record {
   eight-bits = refl;
   seven-bits = refl;

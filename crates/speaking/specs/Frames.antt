@@ -5,7 +5,7 @@ use mathlib.Core.List.{List, [], _∷_, _++_}
 use Prim.Native.Nat.{ℕ}
 use Rattle.chip.specs.Computing.{computing}
 use Rattle.chip.specs.Event.{Event}
-use Rattle.tales.specs.Tale.{after, given, times, digits, reads, line}
+use Rattle.tales.specs.Tale.{chipBehind, given, times, digits, reads, line}
 use Rattle.tales.specs.Words.{command, set, writes, ticks, sendAbort, resetStatus, presetSent}
 use Rattle.tales.specs.Words.{clearUnderrun, sdlc, sendEight, sendChecked, framing}
 use Rattle.speaking.specs.Happens.{happens}
@@ -98,7 +98,7 @@ pub record Told : Type 0 where
       reads happens (framing 0 ++ off ++ command 0 sendAbort ++ command 0 resetStatus) 0 0 ≡ 0x14
 
 pub told : Told
-unfolding computing after given times digits
+unfolding computing chipBehind given times digits
 told = record {
   byte-00 = refl;
   byte-ff = refl;

@@ -18,7 +18,7 @@ use Rattle.channel.specs.Channel.{withStatus}
 use Rattle.channel.specs.Answer.{answerValue}
 use Rattle.chip.specs.Interrupts.{chip}
 use Rattle.chip.specs.Event.{Event, Transmit, step}
-use Rattle.tales.specs.Tale.{Happens, after, times}
+use Rattle.tales.specs.Tale.{Happens, chipBehind, times}
 use Rattle.tales.specs.Kind.{valueOf, isRead, isData, isTick, isCommand, isWrite}
 use Rattle.tales.specs.Parts.{withWr5, withUnit, withInsertion, withCharacter}
 use Rattle.tales.specs.Parts.{withBuffer, withLatch, withSentCheck}

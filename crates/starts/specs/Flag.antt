@@ -184,7 +184,12 @@ where-starts w c st b g l =
         empty = empty;
         preset = preset;
         cleared = cleared;
-        settings = record { sdlc-mode = k .air .mode; on = k .air .on; included = included; no-break = k .air .no-break };
+        settings = record {
+          sdlc-mode = k .air .mode;
+          on = k .air .on;
+          included = included;
+          no-break = k .air .no-break;
+        };
         history =
             subst (λ (z : LineUnit). SoundUnit z (chan w (after d st) .sender .insertion)) (sym u)
             (subst (SoundUnit (Flag (8 - (1 + ticks w st)))) (sym (k .counted))

@@ -19,47 +19,47 @@ use Rattle.stories.specs.Story.{Which, number, chan, happens}
 -- What an event is to this receiver: a bit heard, a read, or anything else; what is refused is
 -- neither of the first two
 
-pub data Role : Type 0 where
-  Hears : Bool → Role
-  Reads : Role
-  Else : Role
+pub data ToReceiver : Type 0 where
+  Hears : Bool → ToReceiver
+  Reads : ToReceiver
+  Else : ToReceiver
 
 abbrev pub here : Which → ℕ → Bool
 here w ch = eqb ch (number w)
 
-abbrev pub role : Which → Event → Role
-role w HardReset = Else
-role w (ControlWrite ch v) = Else
-role w (ControlRead ch) = Else
-role w (DataWrite ch v) = Else
-role w (DataRead ch) = if here w ch then Reads else Else
-role w (Transmit ch) = Else
-role w (Receive ch bit) =
+abbrev pub toReceiver : Which → Event → ToReceiver
+toReceiver w HardReset = Else
+toReceiver w (ControlWrite ch v) = Else
+toReceiver w (ControlRead ch) = Else
+toReceiver w (DataWrite ch v) = Else
+toReceiver w (DataRead ch) = if here w ch then Reads else Else
+toReceiver w (Transmit ch) = Else
+toReceiver w (Receive ch bit) =
     if here w ch then (if leb 2 bit then Else else Hears (onLevel bit)) else Else
-role w (SetLines ch dcd cts) = Else
-role w Acknowledge = Else
-role w Reti = Else
+toReceiver w (SetLines ch dcd cts) = Else
+toReceiver w Acknowledge = Else
+toReceiver w Reti = Else
 
 -- "fed": the bits that a story's receive ticks bring
 
-abbrev pub bitIn : Role → List Bool
+abbrev pub bitIn : ToReceiver → List Bool
 bitIn (Hears b) = b ∷ []
 bitIn Reads = []
 bitIn Else = []
 
 unfoldable pub bitsOf : Which → List Event → List Bool
 bitsOf w [] = []
-bitsOf w (e ∷ st) = bitIn (role w e) ++ bitsOf w st
+bitsOf w (e ∷ st) = bitIn (toReceiver w e) ++ bitsOf w st
 
 -- "gives back": what the reads answered (a refused one gave nothing), and the entries that they
 -- took
 
-abbrev pub isRead : Role → Bool
+abbrev pub isRead : ToReceiver → Bool
 isRead (Hears b) = false
 isRead Reads = true
 isRead Else = false
 
-abbrev pub taking : Which → Chip → Role → Bool
+abbrev pub taking : Which → Chip → ToReceiver → Bool
 taking w c r = isRead r && waits (chan w c .queue)
 
 abbrev pub valueIf : Bool → Answer → List ℕ
@@ -71,12 +71,13 @@ valueIf false a = []
 unfoldable pub valuesOf : Which → Chip → List Event → List ℕ
 valuesOf w c [] = []
 valuesOf w c (e ∷ st) =
-    valueIf (isRead (role w e)) (happens c e .answer) ++ valuesOf w (happens c e .chip) st
+    valueIf (isRead (toReceiver w e)) (happens c e .answer) ++ valuesOf w (happens c e .chip) st
 
 unfoldable pub tookOf : Which → Chip → List Event → List Entry
 tookOf w c [] = []
 tookOf w c (e ∷ st) =
-    entryIf (taking w c (role w e)) (oldest (chan w c .queue)) ++ tookOf w (happens c e .chip) st
+    entryIf (taking w c (toReceiver w e)) (oldest (chan w c .queue))
+    ++ tookOf w (happens c e .chip) st
 
 unfoldable pub bytesOf : List Entry → List ℕ
 bytesOf [] = []

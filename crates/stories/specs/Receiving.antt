@@ -33,7 +33,8 @@ story w noise (b ∷ bs) = Receive (number w) (oneIf b) ∷ (noise ++ story w no
 -- calls that are refused
 abbrev pub noise : List Event
 noise =
-    Receive 1 1 ∷ DataRead 0 ∷ ControlWrite 0 0b10001 ∷ ControlRead 0 ∷ DataWrite 0 3 ∷ Transmit 0 ∷ SetLines 0 1 1 ∷ DataRead 1 ∷ ControlWrite 1 0b11000
+    Receive 1 1 ∷ DataRead 0 ∷ ControlWrite 0 0b10001 ∷ ControlRead 0 ∷ DataWrite 0 3
+    ∷ Transmit 0 ∷ SetLines 0 1 1 ∷ DataRead 1 ∷ ControlWrite 1 0b11000
     ∷ Acknowledge ∷ Reti ∷ Receive 0 2 ∷ DataRead 2 ∷ []
 
 abbrev pub noisy : List Event

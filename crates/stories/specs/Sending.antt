@@ -32,7 +32,8 @@ tick = Transmit 0 ∷ []
 -- hunt had latched it; then three bits of a flag
 abbrev pub setUp : List Event
 setUp =
-    ControlWrite 0 4 ∷ ControlWrite 0 0b100000 ∷ ControlWrite 0 5 ∷ ControlWrite 0 0b1001 ∷ ControlWrite 0 0b10000000 ∷ ControlWrite 0 0b11000000
+    ControlWrite 0 4 ∷ ControlWrite 0 0b100000 ∷ ControlWrite 0 5 ∷ ControlWrite 0 0b1001
+    ∷ ControlWrite 0 0b10000000 ∷ ControlWrite 0 0b11000000
     ∷ ControlWrite 0 3 ∷ ControlWrite 0 0b1 ∷ ControlWrite 0 resetStatus ∷ times 3 tick
 
 abbrev pub begin : Chip
@@ -43,9 +44,12 @@ begin = after hardReset setUp
 -- alone, and calls are refused
 abbrev pub noisy : List Event
 noisy =
-    Transmit 0 ∷ DataWrite 1 7 ∷ DataWrite 0 255 ∷ Receive 0 1 ∷ Transmit 0 ∷ Transmit 0 ∷ Transmit 0 ∷ Transmit 1 ∷ Transmit 7 ∷ Transmit 0
-    ∷ SetLines 0 1 1 ∷ ControlWrite 0 resetStatus ∷ Acknowledge ∷ ControlWrite 0 3 ∷ ControlWrite 0 0b11000001 ∷ ControlWrite 0 4 ∷ ControlWrite 0 0xFF
-    ∷ ControlWrite 0 0b100011 ∷ ControlWrite 0 5 ∷ ControlWrite 0 0b1101001 ∷ ControlWrite 0 1 ∷ ControlRead 0 ∷ ControlWrite 1 0b11000
+    Transmit 0 ∷ DataWrite 1 7 ∷ DataWrite 0 255 ∷ Receive 0 1 ∷ Transmit 0 ∷ Transmit 0
+    ∷ Transmit 0 ∷ Transmit 1 ∷ Transmit 7 ∷ Transmit 0
+    ∷ SetLines 0 1 1 ∷ ControlWrite 0 resetStatus ∷ Acknowledge
+    ∷ ControlWrite 0 3 ∷ ControlWrite 0 0b11000001 ∷ ControlWrite 0 4 ∷ ControlWrite 0 0xFF
+    ∷ ControlWrite 0 0b100011 ∷ ControlWrite 0 5 ∷ ControlWrite 0 0b1101001
+    ∷ ControlWrite 0 1 ∷ ControlRead 0 ∷ ControlWrite 1 0b11000
     ∷ Transmit 0 ∷ DataWrite 0 136 ∷ Reti ∷ times 41
     (Transmit 0 ∷ Transmit 1 ∷ Receive 0 1 ∷ DataRead 0 ∷ [])
 

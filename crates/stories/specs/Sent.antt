@@ -18,32 +18,32 @@ use Rattle.stories.specs.Story.{Which, number, happens}
 -- What an event is to this sender: a tick, a data write, or something else. A refused call is
 -- something else
 
-pub data Role : Type 0 where
-  Ticks : Role
-  Writes : ℕ → Role
-  Else : Role
+pub data ToSender : Type 0 where
+  Ticks : ToSender
+  Writes : ℕ → ToSender
+  Else : ToSender
 
-abbrev pub role : Which → Event → Role
-role w HardReset = Else
-role w (ControlWrite ch v) = Else
-role w (ControlRead ch) = Else
-role w (DataWrite ch v) = if eqb ch (number w) then Writes v else Else
-role w (DataRead ch) = Else
-role w (Transmit ch) = if eqb ch (number w) then Ticks else Else
-role w (Receive ch bit) = Else
-role w (SetLines ch dcd cts) = Else
-role w Acknowledge = Else
-role w Reti = Else
+abbrev pub toSender : Which → Event → ToSender
+toSender w HardReset = Else
+toSender w (ControlWrite ch v) = Else
+toSender w (ControlRead ch) = Else
+toSender w (DataWrite ch v) = if eqb ch (number w) then Writes v else Else
+toSender w (DataRead ch) = Else
+toSender w (Transmit ch) = if eqb ch (number w) then Ticks else Else
+toSender w (Receive ch bit) = Else
+toSender w (SetLines ch dcd cts) = Else
+toSender w Acknowledge = Else
+toSender w Reti = Else
 
 -- The line of a story: the bits that the ticks of this channel give, and how many they are
 
-abbrev pub ticksBy : Role → Bool
+abbrev pub ticksBy : ToSender → Bool
 ticksBy Ticks = true
 ticksBy (Writes v) = false
 ticksBy Else = false
 
 abbrev pub isTick : Which → Event → Bool
-isTick w e = ticksBy (role w e)
+isTick w e = ticksBy (toSender w e)
 
 abbrev pub lineBit : Bool → Answer → List Bool
 lineBit false a = []

@@ -13,9 +13,9 @@ use Rattle.chip.specs.Event.{Event, ControlWrite, ControlRead, DataRead, Transm
 abbrev pub Happens : Type 0
 Happens = Chip → Event → Outcome
 
-unfoldable pub after : Happens → Chip → List Event → Chip
-after h c [] = c
-after h c (e ∷ es) = after h (h c e .chip) es
+unfoldable pub chipBehind : Happens → Chip → List Event → Chip
+chipBehind h c [] = c
+chipBehind h c (e ∷ es) = chipBehind h (h c e .chip) es
 
 -- the values that these events give, 0 where one gives none
 unfoldable pub given : Happens → Chip → List Event → List ℕ
@@ -28,7 +28,7 @@ times (suc n) e = e ∷ times n e
 
 -- behind a tale: what this event answers
 abbrev pub answers : Happens → List Event → Event → Answer
-answers h tale e = h (after h hardReset tale) e .answer
+answers h tale e = h (chipBehind h hardReset tale) e .answer
 
 -- the number with which it is refused, 0 for none
 abbrev pub refusal : Happens → List Event → Event → ℕ
@@ -45,11 +45,11 @@ vector h tale = answerValue (answers h tale Acknowledge)
 
 -- the next n bits of a line
 abbrev pub line : Happens → List Event → ℕ → ℕ → List ℕ
-line h tale ch n = given h (after h hardReset tale) (times n (Transmit ch))
+line h tale ch n = given h (chipBehind h hardReset tale) (times n (Transmit ch))
 
 -- what n data reads give
 abbrev pub bytes : Happens → List Event → ℕ → ℕ → List ℕ
-bytes h tale ch n = given h (after h hardReset tale) (times n (DataRead ch))
+bytes h tale ch n = given h (chipBehind h hardReset tale) (times n (DataRead ch))
 
 -- the n binary digits of v, as they are written
 unfoldable pub digits : ℕ → ℕ → List ℕ

@@ -1,16 +1,15 @@
 -- Conservation, for any ticks: what was read, then what waits, is what waited before, then what was
 -- handed over. Assumes nothing.
 use mathlib.Core.Path.{_≡_, refl, sym, ap, ap₂, _∙_, subst}
-use mathlib.Core.Bool.{Bool, true, false, not, _&&_, _||_}
-use mathlib.Core.List.{List, [], _∷_, _++_, append-assoc, append-nil}
+use mathlib.Core.Bool.{Bool, true, not, _&&_, _||_}
+use mathlib.Core.List.{List, [], _∷_, _++_, append-assoc}
 use Prim.Native.Nat.{ℕ}
 use lib.Dec.{ltb}
-use Rattle.common.specs.Choice.{if_then_else_}
 use Rattle.entry.specs.declared.Entry.{Entry}
 use Rattle.queue.specs.declared.Queue.{Queue}
-use Rattle.queue.specs.Queue.{room, pushed, taken, oldest, waits}
-use Rattle.queue.specs.Laws.{push-holds, read-holds}
-use Rattle.queue.specs.Holding.{Plain, Holds, entryIf}
+use Rattle.queue.specs.Queue.{room, taken, oldest, waits}
+use Rattle.queue.specs.Laws.{read-holds}
+use Rattle.queue.specs.Holding.{Holds, entryIf}
 use Rattle.bytesync.specs.declared.Reception.{Reception}
 use Rattle.bytesync.specs.declared.Matched.{Matched}
 use Rattle.bytesync.specs.Hearing.{hearBlock}
@@ -19,9 +18,11 @@ use Rattle.blocks.specs.Heard.{Moment, heeding, Final, final, handed, before, h
 use Rattle.chip.specs.declared.Chip.{Chip}
 use Rattle.chip.specs.Event.{Event}
 use Rattle.stories.specs.Story.{Which, chan, happens, after}
-use Rattle.stories.specs.Received.{Role, Hears, Reads, Else, role, isRead, taking, tookOf}
+use Rattle.stories.specs.Received.{ToReceiver, Hears, Reads, Else, toReceiver}
+use Rattle.stories.specs.Received.{isRead, taking, tookOf}
 use Rattle.terminals.specs.Side.{Heeded, Side, side, sideOf, checkingOf, momentIn}
 use Rattle.terminals.specs.Side.{momentsOf}
+use Rattle.history.specs.Receiving.Events.{queue-takes}
 use Rattle.terminals.specs.Events.{queuedBy, heardBy, heardSide, readSide, Follows}
 use Rattle.terminals.specs.Events.{Hearing, follows}
 
@@ -37,28 +38,18 @@ roomy x i b = roomFor (x .queue) (heardBy i b x)
 
 pub data Fed (w : Which) : Chip → List Event → Type 0 where
   over : {c : Chip} → Fed w c []
-  hears : {c : Chip} {e : Event} {st : List Event} {b : Bool} → role w e ≡ Hears b
+  hears : {c : Chip} {e : Event} {st : List Event} {b : Bool} → toReceiver w e ≡ Hears b
       → roomy (sideOf w c) (checkingOf w c) b ≡ true → Fed w (happens c e .chip) st
       → Fed w c (e ∷ st)
-  reads : {c : Chip} {e : Event} {st : List Event} → role w e ≡ Reads
+  reads : {c : Chip} {e : Event} {st : List Event} → toReceiver w e ≡ Reads
       → Fed w (happens c e .chip) st → Fed w c (e ∷ st)
-  still : {c : Chip} {e : Event} {st : List Event} → role w e ≡ Else
+  still : {c : Chip} {e : Event} {st : List Event} → toReceiver w e ≡ Else
       → sideOf w (happens c e .chip) ≡ sideOf w c → Fed w (happens c e .chip) st
       → Fed w c (e ∷ st)
 
 before-join : (xs ys : List Entry) (f : Final) → before xs (before ys f) ≡ before (xs ++ ys) f
 before-join xs ys f =
     ap (final (f .reception) (f .check)) (sym (append-assoc xs ys (f .got)))
-
--- the queue takes what a tick hands over
-queue-takes : {p o : Bool} {q : Queue} {es : List Entry} (h : Matched) → Holds p o q es
-    → roomFor q h ≡ true → Plain (h .entry) → Holds p o (queuedBy q h) (es ++ handed h)
-queue-takes {p} {o} {q} {es} h k r e = go (h .some) r
-  where
-    go : (t : Bool) → not t || ltb (q .count) room ≡ true
-        → Holds p o (if t then pushed q (h .entry) else q) (es ++ entryIf t (h .entry))
-    go true r = push-holds k r e
-    go false r = rw (append-nil es) k
 
 -- at the end of a story: the side, and, whatever ticks follow, the whole of what is handed over
 pub record Conserved (w : Which) (c : Chip) (st : List Event) (r : Reception) (k : ℕ) (h : Heeded)
@@ -98,10 +89,10 @@ conserved w (still {c = c} {e = x} {st = st} z s i) r k q h es d e m =
       there = n .there;
       holds = n .holds;
       whole = λ rest.
-          ap (λ (y : Role). before es (hearAll g r k
+          ap (λ (y : ToReceiver). before es (hearAll g r k
           ((momentIn (checkingOf w c) y ++ momentsOf w (happens c x .chip) st) ++ rest))) z
           ∙ n .whole rest
-          ∙ ap (λ (y : Role). before
+          ∙ ap (λ (y : ToReceiver). before
           ((entryIf (taking w c y) (oldest (chan w c .queue)) ++ tookOf w (happens c x .chip) st)
           ++ n .waiting) (hearAll g (n .last) (n .check) rest)) (sym z);
     }
@@ -123,7 +114,7 @@ conserved w (reads {c = c} {e = x} {st = st} z i) r k q h es d e m =
       there = n .there;
       holds = n .holds;
       whole = λ rest.
-          ap (λ (y : Role).
+          ap (λ (y : ToReceiver).
           before es (hearAll g r k ((momentIn (checkingOf w c) y ++ ts) ++ rest))) z
           ∙ ap (λ (l : List Entry). before l (hearAll g r k (ts ++ rest))) (t .split)
           ∙ sym (before-join took (t .rest) (hearAll g r k (ts ++ rest)))
@@ -131,7 +122,7 @@ conserved w (reads {c = c} {e = x} {st = st} z i) r k q h es d e m =
           ∙ before-join took (more ++ n .waiting) (hearAll g (n .last) (n .check) rest)
           ∙ ap (λ (l : List Entry). before l (hearAll g (n .last) (n .check) rest))
           (sym (append-assoc took more (n .waiting)))
-          ∙ ap₂ (λ (y : Role) (u : Side). before
+          ∙ ap₂ (λ (y : ToReceiver) (u : Side). before
           ((entryIf (isRead y && waits (u .queue)) (oldest (u .queue)) ++ more) ++ n .waiting)
           (hearAll g (n .last) (n .check) rest)) (sym z) (sym e);
     }
@@ -144,7 +135,7 @@ conserved w (hears {c = c} {e = x} {st = st} {b = b} z s i) r k q h es d e m =
     (follows w c x (subst Hearing (sym (ap (λ (y : Side). y .heeds) e)) d)) in
     let space : roomFor q u ≡ true = ap (λ (y : Side). roomy y j b) (sym e) ∙ s in
     let n = conserved w i (u .reception) (u .check) (queuedBy q u) h (es ++ handed u) d
-    (f ∙ ap (heardSide j b) e) (queue-takes u m space (hear-plain (heeding g j) r k b)) in
+    (f ∙ ap (heardSide j b) e) (queue-takes (u .some) (u .entry) m space (hear-plain (heeding g j) r k b)) in
     let ts = momentsOf w (happens c x .chip) st in
     record {
       last = n .last;
@@ -154,10 +145,10 @@ conserved w (hears {c = c} {e = x} {st = st} {b = b} z s i) r k q h es d e m =
       there = n .there;
       holds = n .holds;
       whole = λ rest.
-          ap (λ (y : Role). before es (hearAll g r k ((momentIn j y ++ ts) ++ rest))) z
+          ap (λ (y : ToReceiver). before es (hearAll g r k ((momentIn j y ++ ts) ++ rest))) z
           ∙ before-join es (handed u) (hearAll g (u .reception) (u .check) (ts ++ rest))
           ∙ n .whole rest
-          ∙ ap (λ (y : Role). before
+          ∙ ap (λ (y : ToReceiver). before
           ((entryIf (taking w c y) (oldest (chan w c .queue)) ++ tookOf w (happens c x .chip) st)
           ++ n .waiting) (hearAll g (n .last) (n .check) rest)) (sym z);
     }

@@ -3,10 +3,9 @@ use mathlib.Core.Path.{_≡_, refl, sym, ap, ap₂, _∙_, subst}
 use mathlib.Core.Bool.{Bool, true, false}
 use mathlib.Core.List.{List, [], _∷_}
 use Prim.Native.Nat.{ℕ}
-use lib.Dec.{leb}
 use Rattle.common.specs.Choice.{if_then_else_}
 use Rattle.common.specs.Mode.{inBlocks}
-use Rattle.common.specs.Tools.{eqb-elim, bool-or, void}
+use Rattle.common.specs.Tools.{bool-or, void}
 use Rattle.common.specs.declared.Refusal.the-variants as refusal
 use Rattle.shared.specs.Preset.{zeros}
 use Rattle.bytesync.specs.declared.Reception.{Reception}
@@ -17,15 +16,14 @@ use Rattle.blocks.specs.Laws.Register.{Steady, ticked, through-one}
 use Rattle.receiver.specs.declared.Receiver.{Receiver}
 use Rattle.receiver.specs.declared.Heard.{Heard}
 use Rattle.receiver.specs.Receiver.{byMatched, dropped, hear}
-use Rattle.channel.specs.declared.Answer.the-variants.{Done, Refused}
-use Rattle.channel.specs.Channel.{answered, settled}
+use Rattle.channel.specs.Channel.{settled}
 use Rattle.channel.specs.Events.{receiveTick}
+use Rattle.channel.specs.declared.Channel.{Channel}
 use Rattle.chip.specs.declared.Chip.{Chip}
-use Rattle.chip.specs.Chip.{inA, inB, onLevel, receiveCall}
-use Rattle.chip.specs.Event.{Event, HardReset, ControlWrite, ControlRead, DataWrite, DataRead}
-use Rattle.chip.specs.Event.{Transmit, Receive, SetLines, Acknowledge, Reti}
-use Rattle.stories.specs.Story.{Which, A, B, number, chan, happens, after}
-use Rattle.stories.specs.Received.{Role, Hears, Reads, Else, role, bitIn}
+use Rattle.chip.specs.Event.{Event}
+use Rattle.stories.specs.Story.{Which, chan, happens, after}
+use Rattle.stories.specs.Received.{ToReceiver, Hears, Reads, Else, toReceiver, bitIn}
+use Rattle.history.specs.Receiving.Roles.{by-role}
 use Rattle.terminals.specs.Side.{receivingIn, sideOf}
 use Rattle.terminals.specs.Events.{hear-on, hear-off}
 use Rattle.terminals.specs.Statement.{receptionOf, checkOf, Since, over, hears}
@@ -36,49 +34,22 @@ use Rattle.terminals.specs.Statement.{RegisterSincePreset}
 abbrev heardIn : Which → Chip → Bool → Heard
 heardIn w c b = hear (receivingIn (chan w c)) (chan w c .receiver) b
 
-abbrev ReceiverIs : Which → Chip → Chip → Role → Type 0
-ReceiverIs w c d (Hears b) = chan w d .receiver ≡ heardIn w c b .receiver
+abbrev ReceiverIs : Which → Chip → Channel → ToReceiver → Type 0
+ReceiverIs w c d (Hears b) = d .receiver ≡ heardIn w c b .receiver
 ReceiverIs w c d Reads = Unit
 ReceiverIs w c d Else = Unit
 
-tick-receiver : (w : Which) (c : Chip) (bit : ℕ)
-    → ReceiverIs w c (happens c (Receive (number w) bit) .chip)
-    (if leb 2 bit then Else else Hears (onLevel bit))
-unfolding receiveCall receiveTick settled
-tick-receiver A c bit =
-    elim (leb 2 bit) as (λ t. ReceiverIs A c
-    (inA c (if t then answered (Refused refusal.Level) (c .a)
-    else answered Done (receiveTick (c .a) (onLevel bit))) .chip)
-    (if t then Else else Hears (onLevel bit))) [ true ↦ tt | false ↦ refl ]
-tick-receiver B c bit =
-    elim (leb 2 bit) as (λ t. ReceiverIs B c
-    (inB c (if t then answered (Refused refusal.Level) (c .b)
-    else answered Done (receiveTick (c .b) (onLevel bit))) .chip)
-    (if t then Else else Hears (onLevel bit))) [ true ↦ tt | false ↦ refl ]
-
-receiver-is : (w : Which) (c : Chip) (e : Event) → ReceiverIs w c (happens c e .chip) (role w e)
-receiver-is w c HardReset = tt
-receiver-is w c (ControlWrite ch v) = tt
-receiver-is w c (ControlRead ch) = tt
-receiver-is w c (DataWrite ch v) = tt
-receiver-is w c (DataRead ch) =
-    eqb-elim (λ t. ReceiverIs w c (happens c (DataRead ch) .chip) (if t then Reads else Else))
-    ch (number w) (λ e. tt) (λ n. tt)
-receiver-is w c (Transmit ch) = tt
-receiver-is w c (Receive ch bit) =
-    eqb-elim (λ t. ReceiverIs w c (happens c (Receive ch bit) .chip)
-    (if t then (if leb 2 bit then Else else Hears (onLevel bit)) else Else)) ch (number w)
-    (λ e. rw e (tick-receiver w c bit)) (λ n. tt)
-receiver-is w c (SetLines ch dcd cts) = tt
-receiver-is w c Acknowledge = tt
-receiver-is w c Reti = tt
+receiver-is : (w : Which) (c : Chip) (e : Event)
+    → ReceiverIs w c (chan w (happens c e .chip)) (toReceiver w e)
+unfolding receiveTick settled
+receiver-is w c e = by-role w c (λ x r. ReceiverIs w c (x .channel) r) (λ x. tt) (λ b. refl) tt e
 
 -- An event's tale, by its role
 
 abbrev quietTale : Bool → Tale
 quietTale h = if h then Hunt else Within
 
-quiet-tale : (w : Which) (c d : Chip) (r : Role) → bitIn r ≡ []
+quiet-tale : (w : Which) (c d : Chip) (r : ToReceiver) → bitIn r ≡ []
     → taleOf w c d r ≡ quietTale (receptionOf w d .hunt)
 quiet-tale w c d (Hears b) e = void (ap isSome (sym e))
   where
@@ -114,18 +85,18 @@ unfolding talesOf entrantsOf
 steady w over = λ k h x. refl
 steady w (hears {c = c} {e = e} {st = st} {b = b} z m i) =
     let d = happens c e .chip in
-    subst (λ (r : Role). Steady (receptionOf w c) (taleOf w c d r ∷ talesOf w d st)) (sym z)
+    subst (λ (r : ToReceiver). Steady (receptionOf w c) (taleOf w c d r ∷ talesOf w d st)) (sym z)
     (tale-steady w c d b (talesOf w d st))
 steady w (searches {c = c} {e = e} {st = st} z r k i) =
     let d = happens c e .chip in
-    let t : taleOf w c d (role w e) ≡ Hunt =
-    quiet-tale w c d (role w e) z ∙ ap (λ (x : Reception). quietTale (x .hunt)) r in
+    let t : taleOf w c d (toReceiver w e) ≡ Hunt =
+    quiet-tale w c d (toReceiver w e) z ∙ ap (λ (x : Reception). quietTale (x .hunt)) r in
     subst (λ (x : Tale). Steady (receptionOf w c) (x ∷ talesOf w d st)) (sym t)
     (λ k h x. refl)
 steady w (still {c = c} {e = e} {st = st} z r k i) =
     let d = happens c e .chip in
-    let t : taleOf w c d (role w e) ≡ quietTale (receptionOf w c .hunt) =
-    quiet-tale w c d (role w e) z ∙ ap (λ (x : Reception). quietTale (x .hunt)) r in
+    let t : taleOf w c d (toReceiver w e) ≡ quietTale (receptionOf w c .hunt) =
+    quiet-tale w c d (toReceiver w e) z ∙ ap (λ (x : Reception). quietTale (x .hunt)) r in
     subst (λ (x : Tale). Steady (receptionOf w c) (x ∷ talesOf w d st)) (sym t)
     (quiet-steady (receptionOf w c .hunt) (receptionOf w c) (talesOf w d st) refl)
 
@@ -182,14 +153,14 @@ story-enters w (hears {c = c} {e = e} {st = st} {b = b} z m i) =
     let d = happens c e .chip in
     let ts = talesOf w d st in
     let r : chan w d .receiver ≡ heardIn w c b .receiver =
-    subst (ReceiverIs w c d) z (receiver-is w c e) in
+    subst (ReceiverIs w c (chan w d)) z (receiver-is w c e) in
     story-enters w i ∙ tick-enters w c d b ts m r (steady w i)
-    ∙ ap (λ (x : Role). Enters (receptionOf w c) (checkOf w c) (taleOf w c d x ∷ ts)) (sym z)
+    ∙ ap (λ (x : ToReceiver). Enters (receptionOf w c) (checkOf w c) (taleOf w c d x ∷ ts)) (sym z)
 story-enters w (searches {c = c} {e = e} {st = st} z r k i) =
     let d = happens c e .chip in
     let ts = talesOf w d st in
-    let t : taleOf w c d (role w e) ≡ Hunt =
-    quiet-tale w c d (role w e) z ∙ ap (λ (x : Reception). quietTale (x .hunt)) r in
+    let t : taleOf w c d (toReceiver w e) ≡ Hunt =
+    quiet-tale w c d (toReceiver w e) z ∙ ap (λ (x : Reception). quietTale (x .hunt)) r in
     story-enters w i
     ∙ ap₂ (λ (x : Reception) (y : ℕ). Enters x y ts) r k
     ∙ hunt-enters (receptionOf w c) (checkOf w c) ts
@@ -197,8 +168,8 @@ story-enters w (searches {c = c} {e = e} {st = st} z r k i) =
 story-enters w (still {c = c} {e = e} {st = st} z r k i) =
     let d = happens c e .chip in
     let ts = talesOf w d st in
-    let t : taleOf w c d (role w e) ≡ quietTale (receptionOf w c .hunt) =
-    quiet-tale w c d (role w e) z ∙ ap (λ (x : Reception). quietTale (x .hunt)) r in
+    let t : taleOf w c d (toReceiver w e) ≡ quietTale (receptionOf w c .hunt) =
+    quiet-tale w c d (toReceiver w e) z ∙ ap (λ (x : Reception). quietTale (x .hunt)) r in
     story-enters w i
     ∙ ap₂ (λ (x : Reception) (y : ℕ). Enters x y ts) r k
     ∙ quiet-enters (receptionOf w c .hunt) (receptionOf w c) (checkOf w c) ts refl

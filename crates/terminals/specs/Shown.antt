@@ -2,13 +2,14 @@
 -- times, and D4 of RR0 is hunt. Assumes nothing.
 use mathlib.Core.Path.{_≡_, ap, _∙_}
 use mathlib.Core.Bool.{Bool, true, false}
-use Prim.Native.Nat.{ℕ, _+_, _/_, _%_, _≤_}
+use Prim.Native.Nat.{ℕ, _+_, _*_, _/_, _≤_}
 use native.Mathlib.Omega.{arith}
 use lib.Dec.{eqb}
 use Rattle.common.specs.Bit.{placed}
 use Rattle.common.specs.Choice.{if_then_else_}
 use Rattle.common.specs.Mode.{inBlocks}
-use Rattle.line.specs.Bits.{odd}
+use Rattle.line.specs.Bits.{odd, oneIf}
+use Rattle.line.specs.Laws.Bits.{odd-joined}
 use Rattle.queue.specs.declared.Queue.{Queue}
 use Rattle.queue.specs.Queue.{waits, oldest, rr1, rr1Told}
 use Rattle.bytesync.specs.Hearing.{wrong}
@@ -29,14 +30,18 @@ placed-le : (b : Bool) (w : ℕ) → placed b w ≤ w
 placed-le true w = omega arith
 placed-le false w = omega arith
 
+placed-is : (b : Bool) (w : ℕ) → placed b w ≡ oneIf b * w
+placed-is true w = omega arith
+placed-is false w = omega arith
+
 -- RR1 D6
 
 d6-of : (low : ℕ) (error ends : Bool) → low ≤ 63
     → odd ((low + placed error 64 + placed ends 128) / 64) ≡ error
-d6-of low true true h = let e : (low + 64 + 128) / 64 % 2 ≡ 1 = omega arith in rw e
-d6-of low true false h = let e : (low + 64 + 0) / 64 % 2 ≡ 1 = omega arith in rw e
-d6-of low false true h = let e : (low + 0 + 128) / 64 % 2 ≡ 0 = omega arith in rw e
-d6-of low false false h = let e : (low + 0 + 0) / 64 % 2 ≡ 0 = omega arith in rw e
+d6-of low error ends h =
+    let e : (low + placed error 64 + placed ends 128) / 64 ≡ oneIf ends * 2 + oneIf error =
+    omega (arith, placed-is error 64, placed-is ends 128) in
+    rw e (odd-joined (oneIf ends) error)
 
 told-d6 : (q : Queue) (sent error : Bool) → odd (rr1Told q sent error / 64) ≡ error
 unfolding rr1Told
@@ -82,34 +87,18 @@ d6-is B c m p = ap (λ (v : ℕ). odd (v / 64)) (read-rr1 (c .b) false (rr2 c) p
 d4-of : (low : ℕ) (hunt cts underrun abort : Bool) → low ≤ 15
     → odd ((low + placed hunt 16 + placed cts 32 + placed underrun 64 + placed abort 128) / 16)
     ≡ hunt
-d4-of low true cts underrun abort h =
-    let e : (low + 16 + placed cts 32 + placed underrun 64 + placed abort 128) / 16 % 2 ≡ 1 =
-    bits cts underrun abort in
-    rw e
-  where
-    bits : (a b c : Bool) → (low + 16 + placed a 32 + placed b 64 + placed c 128) / 16 % 2 ≡ 1
-    bits true true true = omega arith
-    bits true true false = omega arith
-    bits true false true = omega arith
-    bits true false false = omega arith
-    bits false true true = omega arith
-    bits false true false = omega arith
-    bits false false true = omega arith
-    bits false false false = omega arith
-d4-of low false cts underrun abort h =
-    let e : (low + 0 + placed cts 32 + placed underrun 64 + placed abort 128) / 16 % 2 ≡ 0 =
-    bits cts underrun abort in
-    rw e
-  where
-    bits : (a b c : Bool) → (low + 0 + placed a 32 + placed b 64 + placed c 128) / 16 % 2 ≡ 0
-    bits true true true = omega arith
-    bits true true false = omega arith
-    bits true false true = omega arith
-    bits true false false = omega arith
-    bits false true true = omega arith
-    bits false true false = omega arith
-    bits false false true = omega arith
-    bits false false false = omega arith
+d4-of low hunt cts underrun abort h =
+    let above : ℕ = oneIf cts + oneIf underrun * 2 + oneIf abort * 4 in
+    let e : (low + placed hunt 16 + placed cts 32 + placed underrun 64 + placed abort 128) / 16
+    ≡ above * 2 + oneIf hunt =
+    omega (
+      arith,
+      placed-is hunt 16,
+      placed-is cts 32,
+      placed-is underrun 64,
+      placed-is abort 128,
+    ) in
+    rw e (odd-joined above hunt)
 
 rr0-d4 : (c : Channel) (pending : Bool)
     → odd (rr0 c pending / 16) ≡ shownBits (c .status) (liveOf c) .hunt

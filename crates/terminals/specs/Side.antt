@@ -9,13 +9,16 @@ use Rattle.queue.specs.declared.Queue.{Queue}
 use Rattle.bytesync.specs.declared.Matching.{Matching}
 use Rattle.bytesync.specs.declared.Reception.{Reception}
 use Rattle.blocks.specs.Heard.{Moment, moment, heeding}
+use Rattle.receiver.specs.declared.Receiver.{Receiver}
 use Rattle.receiver.specs.declared.Receiving.{Receiving}
+use Rattle.settings.specs.declared.Registers.{Registers}
+use Rattle.settings.specs.declared.Lines.{Lines}
 use Rattle.settings.specs.Settings.{receivingOf}
 use Rattle.channel.specs.declared.Channel.{Channel}
 use Rattle.chip.specs.declared.Chip.{Chip}
 use Rattle.chip.specs.Event.{Event}
 use Rattle.stories.specs.Story.{Which, chan, happens}
-use Rattle.stories.specs.Received.{Role, Hears, Reads, Else, role}
+use Rattle.stories.specs.Received.{ToReceiver, Hears, Reads, Else, toReceiver}
 
 -- what the two modes heed of the settings; WR3 D3 stands as clear
 pub record Heeded : Type 0 where
@@ -38,9 +41,11 @@ side r k q h = record { reception = r; check = k; queue = q; heeds = h }
 abbrev pub receivingIn : Channel → Receiving
 receivingIn c = receivingOf (c .registers) (c .lines)
 
+abbrev pub part : Registers → Lines → Receiver → Queue → Side
+part r l v q = side (v .reception) (v .check) q (heeded (receivingOf r l))
+
 abbrev pub sideIn : Channel → Side
-sideIn c =
-    side (c .receiver .reception) (c .receiver .check) (c .queue) (heeded (receivingIn c))
+sideIn c = part (c .registers) (c .lines) (c .receiver) (c .queue)
 
 abbrev pub sideOf : Which → Chip → Side
 sideOf w c = sideIn (chan w c)
@@ -50,11 +55,12 @@ abbrev pub checkingOf : Which → Chip → Bool
 checkingOf w c = receivingIn (chan w c) .matching .checking
 
 -- the receive ticks of a story, each with WR3 D3 as it is then
-abbrev pub momentIn : Bool → Role → List Moment
+abbrev pub momentIn : Bool → ToReceiver → List Moment
 momentIn i (Hears b) = moment i b ∷ []
 momentIn i Reads = []
 momentIn i Else = []
 
 unfoldable pub momentsOf : Which → Chip → List Event → List Moment
 momentsOf w c [] = []
-momentsOf w c (e ∷ st) = momentIn (checkingOf w c) (role w e) ++ momentsOf w (happens c e .chip) st
+momentsOf w c (e ∷ st) =
+    momentIn (checkingOf w c) (toReceiver w e) ++ momentsOf w (happens c e .chip) st

@@ -28,7 +28,8 @@ use Rattle.channel.specs.Answer.{answerValue}
 use Rattle.chip.specs.declared.Chip.{Chip}
 use Rattle.chip.specs.Event.{Event, ControlWrite, ControlRead}
 use Rattle.stories.specs.Story.{Which, number, chan, happens, after}
-use Rattle.stories.specs.Received.{Role, Hears, Reads, Else, role, bitIn, bitsOf, valuesOf, tookOf}
+use Rattle.stories.specs.Received.{ToReceiver, Hears, Reads, Else, toReceiver, bitIn, bitsOf}
+use Rattle.stories.specs.Received.{valuesOf, tookOf}
 use Rattle.stories.specs.Received.{bytesOf}
 use Rattle.terminals.specs.Side.{Side, receivingIn, sideOf, momentsOf}
 use Rattle.terminals.specs.Conserved.{Fed}
@@ -113,21 +114,21 @@ FlipSeen =
 -- leaves the check alone and the receiver as it was or starts its search again
 pub data Since (w : Which) : Chip → List Event → Type 0 where
   over : {c : Chip} → Since w c []
-  hears : {c : Chip} {e : Event} {st : List Event} {b : Bool} → role w e ≡ Hears b
+  hears : {c : Chip} {e : Event} {st : List Event} {b : Bool} → toReceiver w e ≡ Hears b
       → inBlocks (sideOf w c .heeds .mode) ≡ true → Since w (happens c e .chip) st
       → Since w c (e ∷ st)
-  searches : {c : Chip} {e : Event} {st : List Event} → bitIn (role w e) ≡ []
+  searches : {c : Chip} {e : Event} {st : List Event} → bitIn (toReceiver w e) ≡ []
       → receptionOf w (happens c e .chip) ≡ searching true
       → checkOf w (happens c e .chip) ≡ checkOf w c → Since w (happens c e .chip) st
       → Since w c (e ∷ st)
-  still : {c : Chip} {e : Event} {st : List Event} → bitIn (role w e) ≡ []
+  still : {c : Chip} {e : Event} {st : List Event} → bitIn (toReceiver w e) ≡ []
       → receptionOf w (happens c e .chip) ≡ receptionOf w c
       → checkOf w (happens c e .chip) ≡ checkOf w c → Since w (happens c e .chip) st
       → Since w c (e ∷ st)
 
 -- what is heard: on a tick while on, as the receiver tells it; a tick while off, and what else
 -- starts the search, is hunt
-abbrev pub taleOf : Which → Chip → Chip → Role → Tale
+abbrev pub taleOf : Which → Chip → Chip → ToReceiver → Tale
 taleOf w c d (Hears b) =
     let g = receivingIn (chan w c) in
     if g .on then told (receptionOf w c) (register.Hears (g .matching) b) else Hunt
@@ -136,7 +137,7 @@ taleOf w c d Else = if receptionOf w d .hunt then Hunt else Within
 
 unfoldable pub talesOf : Which → Chip → List Event → List Tale
 talesOf w c [] = []
-talesOf w c (e ∷ st) = let d = happens c e .chip in taleOf w c d (role w e) ∷ talesOf w d st
+talesOf w c (e ∷ st) = let d = happens c e .chip in taleOf w c d (toReceiver w e) ∷ talesOf w d st
 
 -- the check is that from there on over just the characters for which WR3 D3 was set when the next
 -- one was complete, each over the polynomial of that tick

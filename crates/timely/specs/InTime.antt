@@ -8,7 +8,7 @@ use Rattle.chip.specs.declared.Chip.{Chip}
 use Rattle.chip.specs.Event.{Event, DataWrite, Transmit}
 use Rattle.whole.specs.Stage.{sinceAfter, inTime}
 use Rattle.stories.specs.Story.{Which, number, happens}
-use Rattle.stories.specs.Sent.{Else, role}
+use Rattle.stories.specs.Sent.{Else, toSender}
 use Rattle.history.specs.Sending.Side.{sideOf, fullOf, latchOf}
 
 -- "Write n bytes .., the first during that flag, each next one after the buffer empties and before
@@ -17,7 +17,7 @@ use Rattle.history.specs.Sending.Side.{sideOf, fullOf, latchOf}
 -- ends. Whatever leaves the sender's side as it is may happen at any moment, on either channel
 pub data InTime (w : Which) (left : List ℕ) : Chip → ℕ → List ℕ → List Event → Type 0 where
   over : {c : Chip} {n : ℕ} → InTime w left c n left []
-  still : {c : Chip} {n : ℕ} {rest : List ℕ} {e : Event} {st : List Event} → role w e ≡ Else
+  still : {c : Chip} {n : ℕ} {rest : List ℕ} {e : Event} {st : List Event} → toSender w e ≡ Else
       → sideOf w (happens c e .chip) ≡ sideOf w c
       → InTime w left (happens c e .chip) n rest st → InTime w left c n rest (e ∷ st)
   writes : {c : Chip} {n v : ℕ} {rest : List ℕ} {st : List Event} → fullOf w c ≡ false

@@ -10,8 +10,8 @@ use Rattle.common.specs.Tools.{void, both-left, both-right, not-true}
 use Rattle.chip.specs.declared.Chip.{Chip}
 use Rattle.chip.specs.Event.{Event}
 use Rattle.whole.specs.Stage.{sinceAfter, inTime}
-use Rattle.stories.specs.Story.{Which, happens}
-use Rattle.stories.specs.Sent.{Role, Ticks, Writes, Else, role}
+use Rattle.stories.specs.Story.{Which, happens, throughout, throughout-holds}
+use Rattle.stories.specs.Sent.{ToSender, Ticks, Writes, Else, toSender}
 use Rattle.history.specs.Sending.Side.{fullOf, latchOf, View, its-tick, its-write, other, view}
 use Rattle.history.specs.Sending.Quiet.{quiet, quiet-keeps}
 use Rattle.timely.specs.InTime.{InTime, over, still, writes, next-frame, ticking}
@@ -20,19 +20,19 @@ use Rattle.timely.specs.Free as stated
 
 -- a tick before the deadline; the next byte, into the empty buffer; nothing else that touches the
 -- sender
-abbrev pub allowed : Which → Chip → ℕ → List ℕ → Event → Role → Bool
+abbrev pub allowed : Which → Chip → ℕ → List ℕ → Event → ToSender → Bool
 allowed w c n rest e Ticks = inTime (fullOf w c) n rest
 allowed w c n [] e (Writes b) = latchOf w c
 allowed w c n (v ∷ rest) e (Writes b) = eqb b v && not (fullOf w c)
 allowed w c n rest e Else = quiet w c e
 
-abbrev pub unwritten : Role → List ℕ → List ℕ
+abbrev pub unwritten : ToSender → List ℕ → List ℕ
 unwritten Ticks rest = rest
 unwritten (Writes b) [] = []
 unwritten (Writes b) (v ∷ rest) = rest
 unwritten Else rest = rest
 
-abbrev pub since : Role → Bool → Bool → ℕ → ℕ
+abbrev pub since : ToSender → Bool → Bool → ℕ → ℕ
 since Ticks was is n = sinceAfter was is n
 since (Writes b) was is n = n
 since Else was is n = n
@@ -44,13 +44,14 @@ allWritten (v ∷ rest) = false
 unfoldable pub timely : Which → Chip → ℕ → List ℕ → List Event → Bool
 timely w c n rest [] = allWritten rest
 timely w c n rest (e ∷ st) =
-    allowed w c n rest e (role w e)
-    && timely w (happens c e .chip) (since (role w e) (fullOf w c) (fullOf w (happens c e .chip)) n)
-    (unwritten (role w e) rest) st
+    allowed w c n rest e (toSender w e)
+    && timely w (happens c e .chip)
+    (since (toSender w e) (fullOf w c) (fullOf w (happens c e .chip)) n)
+    (unwritten (toSender w e) rest) st
 
 -- one event, by its role; what follows is handed in
-one-more : (w : Which) (c : Chip) (n : ℕ) (rest : List ℕ) (e : Event) (st : List Event) (r : Role)
-    → View w e r → role w e ≡ r → allowed w c n rest e r ≡ true
+one-more : (w : Which) (c : Chip) (n : ℕ) (rest : List ℕ) (e : Event) (st : List Event)
+    (r : ToSender) → View w e r → toSender w e ≡ r → allowed w c n rest e r ≡ true
     → InTime w [] (happens c e .chip) (since r (fullOf w c) (fullOf w (happens c e .chip)) n)
     (unwritten r rest) st → InTime w [] c n rest (e ∷ st)
 one-more w c n rest _ st Ticks its-tick q a i = ticking a i
@@ -67,7 +68,7 @@ unfolding timely
 in-time w c n [] [] t = over
 in-time w c n (v ∷ rest) [] t = void t
 in-time w c n rest (e ∷ st) t =
-    let r = role w e in
+    let r = toSender w e in
     let m = since r (fullOf w c) (fullOf w (happens c e .chip)) n in
     let a =
     both-left (allowed w c n rest e r) (timely w (happens c e .chip) m (unwritten r rest) st) t in
@@ -78,27 +79,21 @@ in-time w c n rest (e ∷ st) t =
 
 -- The free host, likewise
 
-abbrev pub free : Which → Chip → Event → Role → Bool
+abbrev pub free : Which → Chip → Event → ToSender → Bool
 free w c e Ticks = true
 free w c e (Writes b) = true
 free w c e Else = quiet w c e
 
-unfoldable pub freely : Which → Chip → List Event → Bool
-freely w c [] = true
-freely w c (e ∷ st) = free w c e (role w e) && freely w (happens c e .chip) st
+abbrev pub freely : Which → Chip → List Event → Bool
+freely w c st = throughout (λ d e. free w d e (toSender w e)) c st
 
-one-free : (w : Which) (c : Chip) (e : Event) (st : List Event) (r : Role) → View w e r
-    → role w e ≡ r → free w c e r ≡ true → Free w (happens c e .chip) st → Free w c (e ∷ st)
+one-free : (w : Which) (c : Chip) (e : Event) (st : List Event) (r : ToSender) → View w e r
+    → toSender w e ≡ r → free w c e r ≡ true → Free w (happens c e .chip) st → Free w c (e ∷ st)
 one-free w c _ st Ticks its-tick q a f = stated.ticking f
 one-free w c _ st (Writes b) its-write q a f = stated.writes f
 one-free w c e st Else other q a f = stated.still q (quiet-keeps w c e a) f
 
 pub free-of : (w : Which) (c : Chip) (st : List Event) → freely w c st ≡ true → Free w c st
-unfolding freely
-free-of w c [] t = stated.ended
-free-of w c (e ∷ st) t =
-    let r = role w e in
-    one-free w c e st r (view w e) refl
-    (both-left (free w c e r) (freely w (happens c e .chip) st) t)
-    (free-of w (happens c e .chip) st
-    (both-right (free w c e r) (freely w (happens c e .chip) st) t))
+free-of w c st t =
+    throughout-holds (λ d e. free w d e (toSender w e)) (Free w) (λ d. stated.ended)
+    (λ d e xs. one-free w d e xs (toSender w e) (view w e) refl) c st t

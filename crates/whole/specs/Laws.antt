@@ -4,6 +4,7 @@ pub mod Start
 pub mod Latch
 pub mod Heard
 pub mod Bytes
+pub mod Flip
 pub mod Frames
 pub mod Deaf
 pub mod Unclosed

@@ -14,7 +14,7 @@ use Rattle.bytesync.specs.declared.BlockUnit.the-variants.{Mark, Sync, Byte, Ch
 use Rattle.bytesync.specs.declared.Syncing.{Syncing}
 use Rattle.bytesync.specs.declared.Synced.{Synced}
 use Rattle.bytesync.specs.Sending.{sentBit, startMark, following, tickBlock}
-use Rattle.blocks.specs.Come.{sends, Tick, lineOf, lastOf}
+use Rattle.blocks.specs.Come.{sends, Tick, actsLine, lastOf}
 use Rattle.blocks.specs.Laws.Come.{tick-sync, tick-byte, tick-check}
 
 -- what is left of the unit under way
@@ -27,16 +27,16 @@ unitBits (Check n v) = topBits n v
 -- the line of n ticks and nothing else, and what is shared behind them
 abbrev OffSends : Syncing → BlockUnit → Shared → ℕ → List Bool → Type 0
 OffSends g u k n bits =
-    (lineOf g (sends u k) (replicate n Tick) ≡ bits)
+    (actsLine g (sends u k) (replicate n Tick) ≡ bits)
     × (lastOf g (sends u k) (replicate n Tick) .shared ≡ k)
 
 module _ (g : Syncing) (off : g .on ≡ false) where
   ticks-on : (u : BlockUnit) (k : Shared) (n : ℕ) (b : Bool) (m : BlockUnit) (bits : List Bool)
       → tickBlock g u k ≡ sentBit b m k → OffSends g m k n bits
       → OffSends g u k (suc n) (b ∷ bits)
-  unfolding lineOf lastOf
+  unfolding actsLine lastOf
   ticks-on u k n b m bits e h = (
-    ap (λ (t : Synced). t .bit ∷ lineOf g (sends (t .unit) (t .shared)) (replicate n Tick)) e
+    ap (λ (t : Synced). t .bit ∷ actsLine g (sends (t .unit) (t .shared)) (replicate n Tick)) e
         ∙ ap (λ (l : List Bool). b ∷ l) (h .0),
     ap (λ (t : Synced). lastOf g (sends (t .unit) (t .shared)) (replicate n Tick) .shared) e ∙ h .1,
   )
@@ -47,7 +47,7 @@ module _ (g : Syncing) (off : g .on ≡ false) where
   next-off u k = ap (λ (o : Bool). if o then following g u k else startMark k) off
 
   marks : (k : Shared) (j : ℕ) → OffSends g Mark k j (replicate j true)
-  marks k zero = (unfold lineOf in refl, unfold lastOf in refl)
+  marks k zero = (unfold actsLine in refl, unfold lastOf in refl)
   marks k (suc j) =
       ticks-on Mark k j true Mark (replicate j true) (unfold tickBlock in (next-off Mark k))
       (marks k j)
@@ -55,7 +55,7 @@ module _ (g : Syncing) (off : g .on ≡ false) where
   -- a unit that has ended, and marks
   ended : (u : BlockUnit) (k : Shared) (j : ℕ) → tickBlock g u k ≡ sentBit true Mark k
       → OffSends g u k j (replicate j true)
-  ended u k zero e = (unfold lineOf in refl, unfold lastOf in refl)
+  ended u k zero e = (unfold actsLine in refl, unfold lastOf in refl)
   ended u k (suc j) e = ticks-on u k j true Mark (replicate j true) e (marks k j)
 
   -- a unit of any kind, by its bits and its ticks

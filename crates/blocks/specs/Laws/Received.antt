@@ -27,7 +27,8 @@ use Rattle.blocks.specs.Heard.{entriesOf}
 use Rattle.blocks.specs.Characters.{Character, Brings, nothing, brings, kept, entrants}
 use Rattle.blocks.specs.Characters.{patternBits, patternLength, furtherSyncs, turnAfter, each}
 use Rattle.blocks.specs.Characters.{letIn, firstFree, blockOf, blockGiven}
-use Rattle.blocks.specs.Laws.Check.{withCheck-zero, flip-found}
+use Rattle.whole.specs.Laws.Flip.{flip-found}
+use Rattle.blocks.specs.Laws.Check.{withCheck-zero}
 use Rattle.blocks.specs.Laws.Hunt.{assembled, byte-whole, sync-found}
 
 -- Characters

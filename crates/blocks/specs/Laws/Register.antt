@@ -19,7 +19,8 @@ use Rattle.bytesync.specs.Hearing.{syncSeen, hunting, entering, arrived, lastBi
 use Rattle.bytesync.specs.Hearing.{hearBlock}
 use Rattle.shared.specs.Preset.{zeros}
 use Rattle.blocks.specs.Check.{checkFrom}
-use Rattle.blocks.specs.Register.{Doing, Hears, Searches, State, state, does, after, Tale}
+use Rattle.blocks.specs.Register.{Doing, Hears, Searches, State, state, does}
+use Rattle.blocks.specs.Register.{stateBehind, Tale}
 use Rattle.blocks.specs.Register.{Complete, Hunt, Within, told, tales, Entrant, entrant}
 use Rattle.blocks.specs.Register.{entrantsOf, checkThrough, allOver}
 
@@ -91,10 +92,10 @@ hunt-none s (Searches ∷ xs) e h x = refl
 
 -- behind any ticks, each with its own settings, and any number of searches begun again
 pub register-is : (s : State) (xs : List Doing)
-    → after s xs .check
+    → stateBehind s xs .check
     ≡ checkThrough (s .check)
     (entrantsOf (s .reception .block .have) (s .reception .block .held) (tales s xs))
-unfolding after
+unfolding stateBehind
 register-is s [] = unfold tales entrantsOf checkThrough in refl
 register-is s (Hears g b ∷ xs) =
     register-is (does s (Hears g b)) xs
@@ -113,7 +114,7 @@ through-one p c (v ∷ vs) =
 -- over one polynomial, from a preset in hunt: the check of what entered
 pub register-since-preset : (p : ℕ) (vs : List ℕ) (xs : List Doing)
     → entrantsOf false 0 (tales (state (searching true) zeros) xs) ≡ allOver p vs
-    → after (state (searching true) zeros) xs .check ≡ checkFrom p zeros vs
+    → stateBehind (state (searching true) zeros) xs .check ≡ checkFrom p zeros vs
 register-since-preset p vs xs e =
     register-is (state (searching true) zeros) xs ∙ ap (checkThrough zeros) e
     ∙ through-one p zeros vs

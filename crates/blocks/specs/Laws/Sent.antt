@@ -24,8 +24,8 @@ use Rattle.shared.specs.Preset.{zeros}
 use Rattle.blocks.specs.Check.{checkFrom}
 use Rattle.blocks.specs.Come.{Good, Sends, sends, ticked, filledWith, syncBits, behind}
 use Rattle.blocks.specs.Come.{closed, toCome, Stage, atMark, opening, inByte, inCheck, inTail}
-use Rattle.blocks.specs.Come.{closing, Act, Tick, Write, lineOf, ticks, lastOf, InTime, over}
-use Rattle.blocks.specs.Come.{ticking, writing, writing-behind, syncLength, started}
+use Rattle.blocks.specs.Come.{closing, Act, Tick, Write, actsLine, ticks, lastOf, InTime}
+use Rattle.blocks.specs.Come.{over, ticking, writing, writing-behind, syncLength, started}
 use Rattle.blocks.specs.Come.{syncHead, blockBits, anew}
 use Rattle.blocks.specs.Laws.Hunt.{lowBits-above}
 use Rattle.blocks.specs.Laws.Come.{takes, moves, moves-behind}
@@ -35,14 +35,14 @@ use Rattle.blocks.specs.Laws.Come.{takes, moves, moves-behind}
 -- behind a story in time: what was sent and what is to come are what was to come, at some stage
 pub record Kept (g : Syncing) (s : Sends) (acts : List Act) (whole : List Bool)
     (left more : List ℕ) : Type 0 where
-  pub line : lineOf g s acts ++ toCome g (lastOf g s acts) left more ≡ whole
+  pub line : actsLine g s acts ++ toCome g (lastOf g s acts) left more ≡ whole
   pub stage : Stage (lastOf g s acts) left more
 
 pub in-time-sends : (g : Syncing) → Good g → {left more : List ℕ} {s : Sends} {rest tail : List ℕ}
     {acts : List Act} → InTime g left more s rest tail acts → Stage s rest tail
     → ticks acts ≤ length (toCome g s rest tail)
     → Kept g s acts (toCome g s rest tail) left more
-unfolding lineOf ticks lastOf
+unfolding actsLine ticks lastOf
 in-time-sends g h over s l = record { line = refl; stage = s }
 in-time-sends g h (ticking {s = x} t i) s l =
     let m = takes g h s t (omega arith) in
@@ -62,8 +62,8 @@ in-time-sends g h (writing-behind f e i) s l =
     record { line = k .line ∙ sym (m .0); stage = k .stage }
 
 pub line-length : (g : Syncing) (s : Sends) (acts : List Act)
-    → length (lineOf g s acts) ≡ ticks acts
-unfolding lineOf ticks
+    → length (actsLine g s acts) ≡ ticks acts
+unfolding actsLine ticks
 line-length g s [] = refl
 line-length g s (Tick ∷ acts) = ap suc (line-length g (ticked g s) acts)
 line-length g s (Write v ∷ acts) = line-length g (filledWith s v) acts
@@ -75,10 +75,10 @@ no-bits (x ∷ xs) e = absurd (omega arith)
 -- as many ticks as there are bits to come bring them all
 pub all-sent : (g : Syncing) → Good g → {s : Sends} {rest tail : List ℕ} {acts : List Act}
     → InTime g [] [] s rest tail acts → Stage s rest tail
-    → ticks acts ≡ length (toCome g s rest tail) → lineOf g s acts ≡ toCome g s rest tail
+    → ticks acts ≡ length (toCome g s rest tail) → actsLine g s acts ≡ toCome g s rest tail
 all-sent g h {s} {rest} {tail} {acts} i x e =
     let k = in-time-sends g h i x (omega arith) in
-    let l = lineOf g s acts in
+    let l = actsLine g s acts in
     let t = toCome g (lastOf g s acts) [] [] in
     let z : t ≡ [] =
     no-bits t (omega (arith, ap length (k .line), length-append l t, line-length g s acts)) in
@@ -178,7 +178,7 @@ pub block-sent : (g : Syncing) → Good g → (p b v : ℕ) (vs tail : List ℕ)
     → p ≤ syncLength (g .syncs) → InTime g [] [] (started (g .syncs) p b) (v ∷ vs) tail acts
     → p + ticks acts
     ≡ 2 * syncLength (g .syncs) + 8 * length (v ∷ vs) + 16 + 8 * length tail
-    → syncHead (g .syncs) p ++ lineOf g (started (g .syncs) p b) acts ≡ blockBits g (v ∷ vs) tail
+    → syncHead (g .syncs) p ++ actsLine g (started (g .syncs) p b) acts ≡ blockBits g (v ∷ vs) tail
 block-sent g h p b v vs tail l i e =
     ap (λ (x : List Bool). syncHead (g .syncs) p ++ x)
     (all-sent g h i (started-stage (g .syncs) p b v vs tail)
@@ -189,7 +189,7 @@ block-sent g h p b v vs tail l i e =
 pub block-sent-from-mark : (g : Syncing) → Good g → (b v : ℕ) (vs tail : List ℕ) {acts : List Act}
     → let s = sends Mark (shared b false false zeros) in
     InTime g [] [] s (v ∷ vs) tail acts → ticks acts ≡ length (blockBits g (v ∷ vs) tail)
-    → lineOf g s acts ≡ blockBits g (v ∷ vs) tail
+    → actsLine g s acts ≡ blockBits g (v ∷ vs) tail
 block-sent-from-mark g h b v vs tail i e = all-sent g h i (atMark b false zeros (v ∷ vs) tail tt) e
 
 -- Two blocks in a row: within the sync behind the first the host clears the latch and presets the
@@ -220,7 +220,7 @@ pub two-blocks : (g : Syncing) → Good g → (p b v : ℕ) (vs tail : List ℕ)
     → let m = lastOf g s xs in (n x : ℕ) → m .unit ≡ Sync n x → m .shared .latch ≡ true
     → (w : ℕ) (ws more : List ℕ) → InTime g [] [] (anew m) (w ∷ ws) more ys
     → ticks ys ≡ length (toCome g (anew m) (w ∷ ws) more)
-    → syncHead (g .syncs) p ++ (lineOf g s xs ++ lineOf g (anew m) ys)
+    → syncHead (g .syncs) p ++ (actsLine g s xs ++ actsLine g (anew m) ys)
     ≡ blockBits g (v ∷ vs) tail ++ closed g zeros (w ∷ ws) more
 two-blocks g h p b v vs tail xs ys l i e n x u f w ws more j d =
     let y = g .syncs in
@@ -231,9 +231,9 @@ two-blocks g h p b v vs tail xs ys l i e n x u f w ws more j d =
     let a = closing-anew g (k .stage) n x w ws more u f in
     let next = closed g zeros (w ∷ ws) more in
     let head = syncHead y p in
-    ap (λ (z : List Bool). head ++ (lineOf g s xs ++ z)) (all-sent g h j (a .1) d ∙ a .0)
+    ap (λ (z : List Bool). head ++ (actsLine g s xs ++ z)) (all-sent g h j (a .1) d ∙ a .0)
     ∙ ap (λ (z : List Bool). head ++ z)
-    (sym (append-assoc (lineOf g s xs) (toCome g m [] []) next)
+    (sym (append-assoc (actsLine g s xs) (toCome g m [] []) next)
     ∙ ap (λ (z : List Bool). z ++ next) (k .line))
     ∙ sym (append-assoc head (toCome g s (v ∷ vs) tail) next)
     ∙ ap (λ (z : List Bool). z ++ next) (to-come-started g h p b v vs tail l)

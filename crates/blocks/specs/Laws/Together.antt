@@ -22,7 +22,7 @@ use Rattle.blocks.specs.Check.{checkFrom, withCheck}
 use Rattle.blocks.specs.Heard.{Moment, hearAll, entriesOf}
 use Rattle.blocks.specs.Characters.{bitsOf, endsOf, patternBits, patternLength, furtherSyncs}
 use Rattle.blocks.specs.Characters.{turnAfter, blockGiven, blockBytes, letting, Feeds}
-use Rattle.blocks.specs.Come.{Good, syncBits, behind, closed, Act, lineOf, ticks, InTime}
+use Rattle.blocks.specs.Come.{Good, syncBits, behind, closed, Act, actsLine, ticks, InTime}
 use Rattle.blocks.specs.Come.{syncLength, started, syncHead, blockBits}
 use Rattle.blocks.specs.Laws.Check.{withCheck-bits, withCheck-below, withCheck-length}
 use Rattle.blocks.specs.Laws.Check.{below-join}
@@ -130,7 +130,7 @@ pub together : (s : Syncing) (r : Matching) (p b v : ℕ) (vs tail : List ℕ) {
     → v ≢ expected (r .syncs) false → Below 256 (v ∷ vs) → lastByte s tail < 256
     → (i : Bool) (ts : List Moment)
     → bitsOf ts ++ bitsLeft s tail
-    ≡ syncHead (s .syncs) p ++ lineOf s (started (s .syncs) p b) acts
+    ≡ syncHead (s .syncs) p ++ actsLine s (started (s .syncs) p b) acts
     → endsOf (patternLength (r .syncs) + 7) ts ≡ letting i 0 (length (v ∷ vs) + 2)
     → let f = hearAll r (searching true) zeros ts in
     (f .got ≡ entriesOf (withCheck (r .polynomial) (v ∷ vs) ++ (lastByte s tail ∷ [])))

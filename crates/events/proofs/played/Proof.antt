@@ -5,15 +5,15 @@ use borrow.Author.Needs.{needs}
 use Rattle.events.proofs.played.Statement.{statement}
 use Rattle.events.proofs.played.Tie as tie
 
-line-of-requires : tie.Need-line-of-requires
-line-of-requires c κs = search needs
+told-line-requires : tie.Need-told-line-requires
+told-line-requires c κs = search needs
 
 telling-requires : tie.Need-telling-requires
 telling-requires c κs = search needs
 
 returns : tie.Need-returns
 unfolding played
-returns c = simp (tests, ← c .before .line-of .ensures) (c .telling .ensures)
+returns c = simp (tests, ← c .before .told-line .ensures) (c .telling .ensures)
 
 pub played-spec : {M : Type 1} → statement M
-played-spec = tie.close (tie.spec line-of-requires telling-requires returns)
+played-spec = tie.close (tie.spec told-line-requires telling-requires returns)

@@ -1,38 +1,32 @@
 -- Which events leave the receiving side of a channel as it was: a test that a reader can run, and
--- the proof that it is enough. Assumes nothing.
-use mathlib.Core.Path.{_≡_, refl, sym, ap, _∙_}
-use mathlib.Core.Bool.{Bool, true, false, not, _&&_, _||_}
+-- the proof that it is enough. WR0, and what the sender's own calls leave, for every part that
+-- receiver and queue say. Assumes nothing.
+use mathlib.Core.Path.{_≡_, refl, ap, _∙_}
+use mathlib.Core.Bool.{Bool, true, false, not, _&&_, _||_, Bool·beq}
 use Prim.Native.Nat.{ℕ, _/_}
-use lib.Dec.{eqb, leb}
-use Rattle.common.specs.Choice.{if_then_else_}
+use lib.Dec.{eqb}
 use Rattle.common.specs.Tools.{by-test, if-elim, void, both-left, both-right}
 use Rattle.line.specs.Bits.{odd}
-use Rattle.line.specs.Check.{differs}
-use Rattle.interrupts.specs.declared.Six.{Six}
-use Rattle.interrupts.specs.Interrupts.{acknowledged, ended}
+use Rattle.queue.specs.declared.Queue.{Queue}
+use Rattle.receiver.specs.declared.Receiver.{Receiver}
 use Rattle.receiver.specs.Receiver.{listenerOf}
-use Rattle.settings.specs.Settings.{store5, store6, store7, commandIn, presetIn, autoEnables}
-use Rattle.settings.specs.Settings.{modeIn, formatOf, notBuilt, receivingOf}
-use Rattle.channel.specs.declared.Channel.{Channel}
-use Rattle.channel.specs.declared.Answered.{Answered}
-use Rattle.channel.specs.Channel.{withRegisters, settled}
-use Rattle.channel.specs.Control.{commanded, preset, commandStep, presetStep, writeWr0, setWr1}
-use Rattle.channel.specs.Control.{setWr2, setWr3, setWr4, setRegister, controlWritten}
-use Rattle.channel.specs.Events.{transmitTick, linesSet}
-use Rattle.chip.specs.declared.Chip.{Chip}
-use Rattle.chip.specs.declared.Outcome.{Outcome}
-use Rattle.chip.specs.Interrupts.{pendingOf, serviceOf, inService, acknowledge, reti}
-use Rattle.chip.specs.Chip.{inA, inB, byChannel, serviceBy, controlWriteA, controlWrite}
-use Rattle.chip.specs.Chip.{controlReadCall, dataWriteCall, dataReadCall, transmitCall, onLevel}
-use Rattle.chip.specs.Chip.{receiveCall, linesCall}
-use Rattle.chip.specs.Event.{Event, HardReset, ControlWrite, ControlRead, DataWrite, DataRead}
-use Rattle.chip.specs.Event.{Transmit, Receive, SetLines, Acknowledge, Reti}
-use Rattle.stories.specs.Story.{Which, A, B, chan, happens}
-use Rattle.stories.specs.Received.{here}
-use Rattle.history.specs.Receiving.Side.{side, sideIn, sideOf}
-use Rattle.history.specs.Receiving.Tools.{refused-test, or-right}
+use Rattle.settings.specs.declared.Registers.{Registers}
+use Rattle.settings.specs.declared.Lines.{Lines}
+use Rattle.settings.specs.Settings.{store5, store7, commandIn, presetIn, autoEnables}
+use Rattle.settings.specs.Settings.{modeIn, formatOf, receivingOf}
 use Rattle.channel.specs.declared.Side as channel
 use Rattle.channel.specs.declared.Side.the-variants as channels
+use Rattle.channel.specs.declared.Channel.{Channel}
+use Rattle.channel.specs.Channel.{withRegisters, settled}
+use Rattle.channel.specs.Control.{commanded, preset, commandStep, presetStep, writeWr0, setWr1}
+use Rattle.channel.specs.Control.{setWr2}
+use Rattle.channel.specs.Events.{dataWritten, transmitTick, linesSet}
+use Rattle.chip.specs.declared.Chip.{Chip}
+use Rattle.chip.specs.Event.{Event}
+use Rattle.stories.specs.Story.{Which, happens}
+use Rattle.history.specs.Tools.{refused-test, still-on}
+use Rattle.history.specs.Quiet.{Test, quietBy, Part, KeptIn, Keeps, quiet-kept}
+use Rattle.history.specs.Receiving.Side.{side, part, sideOf}
 
 -- The test
 
@@ -40,128 +34,96 @@ use Rattle.channel.specs.declared.Side.the-variants as channels
 abbrev pub quietWr0 : ℕ → Bool
 quietWr0 v = not (eqb (commandIn v) 3) && (not (eqb (commandIn v) 6) && not (eqb (presetIn v) 1))
 
--- the registers that say nothing to the receiver
-abbrev pub quietRegister : ℕ → Bool
-quietRegister p = not (eqb p 3) && (not (eqb p 4) && not (eqb p 6))
-
-abbrev pub quietWrite : ℕ → ℕ → Bool
-quietWrite p v = if eqb p 0 then quietWr0 v else quietRegister p
-
 -- with auto enables DCD has to stay as it is
-abbrev pub quietLines : Channel → Bool → Bool
-quietLines c dcd = not (autoEnables (c .registers)) || not (differs dcd (c .lines .dcd))
+abbrev pub quietDcd : Channel → Bool → Bool
+quietDcd c dcd = not (autoEnables (c .registers)) || Bool·beq dcd (c .lines .dcd)
 
--- events of the other channel are quiet; of this one all but receive ticks and data reads, and what
--- writes its receiver or queue or sets it anew
+-- all but receive ticks and data reads, and what writes its receiver or queue or sets it anew: of
+-- the registers WR3, WR4 and WR6
+abbrev pub test : Test
+test = record {
+  wr0 = quietWr0;
+  wr3 = λ r v. false;
+  wr4 = λ r v. false;
+  wr5 = λ r v. true;
+  wr6 = λ r v. false;
+  wr7 = λ r v. true;
+  data-writes = true;
+  data-reads = false;
+  transmits = true;
+  receives = false;
+  lines = λ c dcd cts. quietDcd c dcd;
+}
+
 abbrev pub quiet : Which → Chip → Event → Bool
-quiet w c HardReset = false
-quiet w c (ControlWrite ch v) = not (here w ch) || quietWrite (chan w c .pointer) v
-quiet w c (ControlRead ch) = true
-quiet w c (DataWrite ch v) = true
-quiet w c (DataRead ch) = not (here w ch)
-quiet w c (Transmit ch) = true
-quiet w c (Receive ch bit) = not (here w ch) || leb 2 bit
-quiet w c (SetLines ch dcd cts) = not (here w ch) || quietLines (chan w c) (onLevel dcd)
-quiet w c Acknowledge = true
-quiet w c Reti = true
+quiet w c e = quietBy test w c e
 
--- It is enough: a channel's own events
+-- It is enough: every part that receiver and queue say
 
-abbrev KeptIn : Channel → Channel → Type 0
-KeptIn c x = sideIn x ≡ sideIn c
+abbrev pub heardPart : {X : Type 0} → (Registers → Lines → Receiver → Queue → X) → Part X
+heardPart g r l s v q = g r l v q
 
-commanded-kept : (c : Channel) (k : ℕ) → not (eqb k 6) ≡ true → KeptIn c (commanded c k)
+commanded-kept : {X : Type 0} (g : Registers → Lines → Receiver → Queue → X) (c : Channel) (k : ℕ)
+    → not (eqb k 6) ≡ true → KeptIn (heardPart g) c (commanded c k)
 unfolding commanded
-commanded-kept c k n =
-    if-elim (KeptIn c) (eqb k 1) refl
-    (if-elim (KeptIn c) (eqb k 2) refl
-    (if-elim (KeptIn c) (eqb k 4) refl (if-elim (KeptIn c) (eqb k 5) refl
-    (by-test (KeptIn c) (eqb k 6) (λ t. refused-test n t) (λ t. refl)))))
+commanded-kept g c k n =
+    let P = KeptIn (heardPart g) c in
+    if-elim P (eqb k 1) refl (if-elim P (eqb k 2) refl (if-elim P (eqb k 4) refl
+    (if-elim P (eqb k 5) refl (by-test P (eqb k 6) (λ t. refused-test n t) (λ t. refl)))))
 
-preset-kept : (c : Channel) (k : ℕ) → not (eqb k 1) ≡ true → KeptIn c (preset c k)
+preset-kept : {X : Type 0} (g : Registers → Lines → Receiver → Queue → X) (c : Channel) (k : ℕ)
+    → not (eqb k 1) ≡ true → KeptIn (heardPart g) c (preset c k)
 unfolding preset
-preset-kept c k n =
-    by-test (KeptIn c) (eqb k 1) (λ t. refused-test n t)
-    (λ t. if-elim (KeptIn c) (eqb k 2) refl (if-elim (KeptIn c) (eqb k 3) refl refl))
+preset-kept g c k n =
+    let P = KeptIn (heardPart g) c in
+    by-test P (eqb k 1) (λ t. refused-test n t)
+    (λ t. if-elim P (eqb k 2) refl (if-elim P (eqb k 3) refl refl))
 
-wr0-kept : (c : Channel) (v : ℕ) → quietWr0 v ≡ true → KeptIn c (writeWr0 c v)
+pub wr0-kept : {X : Type 0} (g : Registers → Lines → Receiver → Queue → X) (c : Channel) (v : ℕ)
+    → quietWr0 v ≡ true → KeptIn (heardPart g) c (writeWr0 c v)
 unfolding writeWr0 presetStep commandStep settled
-wr0-kept c v q =
+wr0-kept g c v q =
     let a = not (eqb (commandIn v) 3) in
     let b = not (eqb (commandIn v) 6) in
     let d = not (eqb (presetIn v) 1) in
     let r = both-right a (b && d) q in
-    by-test (KeptIn c) (eqb (commandIn v) 3) (λ t. refused-test (both-left a (b && d) q) t)
-    (λ t. preset-kept (commandStep c v) (presetIn v) (both-right b d r)
-    ∙ commanded-kept c (commandIn v) (both-left b d r))
+    by-test (KeptIn (heardPart g) c) (eqb (commandIn v) 3)
+    (λ t. refused-test (both-left a (b && d) q) t)
+    (λ t. preset-kept g (commandStep c v) (presetIn v) (both-right b d r)
+    ∙ commanded-kept g c (commandIn v) (both-left b d r))
 
-wr1-kept : (c : Channel) (v : ℕ) → KeptIn c (setWr1 c v)
+pub write-kept : {X : Type 0} (g : Registers → Lines → Receiver → Queue → X) (c : Channel) (v : ℕ)
+    → KeptIn (heardPart g) c (dataWritten c v)
+write-kept g c v = refl
+
+pub transmit-kept : {X : Type 0} (g : Registers → Lines → Receiver → Queue → X) (c : Channel)
+    → KeptIn (heardPart g) c (transmitTick c .channel)
+unfolding transmitTick settled
+transmit-kept g c = refl
+
+-- and this side
+
+abbrev KeptSide : Channel → Channel → Type 0
+KeptSide c x = KeptIn (heardPart part) c x
+
+wr1-kept : (c : Channel) (v : ℕ) → KeptSide c (setWr1 c v)
 unfolding receivingOf
 wr1-kept c v = refl
 
-wr2-kept : (c : Channel) (w : channel.Side) (v : ℕ) → KeptIn c (setWr2 c w v)
+wr2-kept : (c : Channel) (w : channel.Side) (v : ℕ) → KeptSide c (setWr2 c w v)
 unfolding receivingOf
 wr2-kept c channels.A v = refl
 wr2-kept c channels.B v = refl
 
-wr5-kept : (c : Channel) (v : ℕ) → KeptIn c (withRegisters c (store5 (c .registers) v))
+wr5-kept : (c : Channel) (v : ℕ) → KeptSide c (withRegisters c (store5 (c .registers) v))
 unfolding receivingOf
 wr5-kept c v = refl
 
-wr7-kept : (c : Channel) (v : ℕ) → KeptIn c (withRegisters c (store7 (c .registers) v))
+wr7-kept : (c : Channel) (v : ℕ) → KeptSide c (withRegisters c (store7 (c .registers) v))
 unfolding receivingOf
 wr7-kept c v = refl
 
--- whichever register is written, if not WR3, WR4 or WR6
-chosen-kept : (c : Channel) (p : ℕ) (r1 r2 r3 r4 r5 r6 r7 : Channel) → quietRegister p ≡ true
-    → KeptIn c r1 → KeptIn c r2 → KeptIn c r5 → KeptIn c r7
-    → KeptIn c (if eqb p 1 then r1 else
-    (if eqb p 2 then r2 else
-    (if eqb p 3 then r3 else
-    (if eqb p 4 then r4 else (if eqb p 5 then r5 else (if eqb p 6 then r6 else r7))))))
-chosen-kept c p r1 r2 r3 r4 r5 r6 r7 q k1 k2 k5 k7 =
-    let r = both-right (not (eqb p 3)) (not (eqb p 4) && not (eqb p 6)) q in
-    if-elim (KeptIn c) (eqb p 1) k1 (if-elim (KeptIn c) (eqb p 2) k2
-    (by-test (KeptIn c) (eqb p 3)
-    (λ t. refused-test (both-left (not (eqb p 3)) (not (eqb p 4) && not (eqb p 6)) q) t)
-    (λ t. by-test (KeptIn c) (eqb p 4)
-    (λ t. refused-test (both-left (not (eqb p 4)) (not (eqb p 6)) r) t)
-    (λ t. if-elim (KeptIn c) (eqb p 5) k5
-    (by-test (KeptIn c) (eqb p 6)
-    (λ t. refused-test (both-right (not (eqb p 4)) (not (eqb p 6)) r) t) (λ t. k7))))))
-
-register-kept : (c : Channel) (w : channel.Side) (p v : ℕ) → quietRegister p ≡ true
-    → KeptIn c (setRegister c w p v)
-unfolding setRegister
-register-kept c w p v q =
-    let r = c .registers in
-    chosen-kept c p (setWr1 c v) (setWr2 c w v) (setWr3 c v) (setWr4 c v)
-    (withRegisters c (store5 r v)) (withRegisters c (store6 r v)) (withRegisters c (store7 r v)) q
-    (wr1-kept c v) (wr2-kept c w v) (wr5-kept c v) (wr7-kept c v)
-
-quiet-register : (p v : ℕ) → quietWrite p v ≡ true → eqb p 0 ≡ false → quietRegister p ≡ true
-quiet-register p v q t = sym (ap (λ (b : Bool). if b then quietWr0 v else quietRegister p) t) ∙ q
-
-quiet-wr0 : (p v : ℕ) → quietWrite p v ≡ true → eqb p 0 ≡ true → quietWr0 v ≡ true
-quiet-wr0 p v q t = sym (ap (λ (b : Bool). if b then quietWr0 v else quietRegister p) t) ∙ q
-
-written-kept : (c : Channel) (w : channel.Side) (v : ℕ) → quietWrite (c .pointer) v ≡ true
-    → KeptIn c (controlWritten c w v .channel)
-unfolding controlWritten settled
-written-kept c w v q =
-    by-test (λ (r : Answered). KeptIn c (r .channel)) (eqb (c .pointer) 0)
-    (λ t. wr0-kept c v (quiet-wr0 (c .pointer) v q t))
-    (λ t. if-elim (λ (r : Answered). KeptIn c (r .channel)) (eqb (c .pointer) 4 && notBuilt v) refl
-    (register-kept c w (c .pointer) v (quiet-register (c .pointer) v q t)))
-
-still-on : (a d e : Bool) → not a || not (differs d e) ≡ true → not a || d ≡ not a || e
-still-on true true true q = refl
-still-on true true false q = void q
-still-on true false true q = void q
-still-on true false false q = refl
-still-on false d e q = refl
-
-lines-kept : (c : Channel) (d t : Bool) → quietLines c d ≡ true → KeptIn c (linesSet c d t)
+lines-kept : (c : Channel) (d t : Bool) → quietDcd c d ≡ true → KeptSide c (linesSet c d t)
 unfolding linesSet settled receivingOf
 lines-kept c d t q =
     let r = c .registers in
@@ -172,115 +134,23 @@ lines-kept c d t q =
       format = formatOf r (r .wr3 / 64);
     })) (still-on (autoEnables r) d (c .lines .dcd) q)
 
--- The chip's events
-
-abbrev Kept : Which → Chip → Chip → Type 0
-Kept w c d = sideOf w d ≡ sideOf w c
-
-abbrev KeptBy : Which → Chip → Outcome → Type 0
-KeptBy w c o = Kept w c (o .chip)
-
-abbrev own : Which → Outcome → Outcome → Outcome
-own A a b = a
-own B a b = b
-
-abbrev others : Which → Outcome → Outcome → Outcome
-others A a b = b
-others B a b = a
-
-call-kept : (w : Which) (c : Chip) (ch : ℕ) (a b : Outcome)
-    → (here w ch ≡ true → KeptBy w c (own w a b)) → KeptBy w c (others w a b)
-    → KeptBy w c (byChannel c ch a b)
-call-kept A c ch a b p q =
-    by-test (KeptBy A c) (eqb ch 0) p (λ t. if-elim (KeptBy A c) (eqb ch 1) q refl)
-call-kept B c ch a b p q =
-    if-elim (KeptBy B c) (eqb ch 0) q (by-test (KeptBy B c) (eqb ch 1) p (λ t. refl))
-
--- sources go into service or out of it
-service-kept : (w : Which) (c : Chip) (s : Six) → Kept w c (inService c s)
-service-kept A c s = refl
-service-kept B c s = refl
-
-write-own : (c : Chip) (v : ℕ) → quietWrite (c .a .pointer) v ≡ true
-    → KeptBy A c (controlWriteA c v)
-unfolding controlWriteA
-write-own c v q = written-kept (inService c (serviceBy c v) .a) channels.A v q
-
-write-other : (c : Chip) (v : ℕ) → KeptBy B c (controlWriteA c v)
-unfolding controlWriteA
-write-other c v = refl
-
-write-kept : (w : Which) (c : Chip) (ch v : ℕ) → quiet w c (ControlWrite ch v) ≡ true
-    → KeptBy w c (controlWrite c ch v)
-unfolding controlWrite
-write-kept A c ch v q =
-    call-kept A c ch _ _
-    (λ t. write-own c v (or-right (here A ch) (quietWrite (c .a .pointer) v) q t)) refl
-write-kept B c ch v q =
-    call-kept B c ch _ _
-    (λ t. written-kept (c .b) channels.B v
-    (or-right (here B ch) (quietWrite (c .b .pointer) v) q t)) (write-other c v)
-
-read-kept : (w : Which) (c : Chip) (ch : ℕ) → KeptBy w c (controlReadCall c ch)
-unfolding controlReadCall
-read-kept A c ch = call-kept A c ch _ _ (λ t. refl) refl
-read-kept B c ch = call-kept B c ch _ _ (λ t. refl) refl
-
-data-write-kept : (w : Which) (c : Chip) (ch v : ℕ) → KeptBy w c (dataWriteCall c ch v)
-unfolding dataWriteCall
-data-write-kept A c ch v = call-kept A c ch _ _ (λ t. refl) refl
-data-write-kept B c ch v = call-kept B c ch _ _ (λ t. refl) refl
-
-data-read-kept : (w : Which) (c : Chip) (ch : ℕ) → not (here w ch) ≡ true
-    → KeptBy w c (dataReadCall c ch)
-unfolding dataReadCall
-data-read-kept A c ch q = call-kept A c ch _ _ (λ t. refused-test q t) refl
-data-read-kept B c ch q = call-kept B c ch _ _ (λ t. refused-test q t) refl
-
-transmit-kept : (w : Which) (c : Chip) (ch : ℕ) → KeptBy w c (transmitCall c ch)
-unfolding transmitCall transmitTick settled
-transmit-kept A c ch = call-kept A c ch _ _ (λ t. refl) refl
-transmit-kept B c ch = call-kept B c ch _ _ (λ t. refl) refl
-
-receive-kept : (w : Which) (c : Chip) (ch bit : ℕ) → not (here w ch) || leb 2 bit ≡ true
-    → KeptBy w c (receiveCall c ch bit)
-unfolding receiveCall
-receive-kept A c ch bit q =
-    call-kept A c ch _ _
-    (λ t. by-test (λ (x : Answered). KeptBy A c (inA c x)) (leb 2 bit) (λ u. refl)
-    (λ u. void (sym u ∙ or-right (here A ch) (leb 2 bit) q t))) refl
-receive-kept B c ch bit q =
-    call-kept B c ch _ _
-    (λ t. by-test (λ (x : Answered). KeptBy B c (inB c x)) (leb 2 bit) (λ u. refl)
-    (λ u. void (sym u ∙ or-right (here B ch) (leb 2 bit) q t))) refl
-
-set-lines-kept : (w : Which) (c : Chip) (ch dcd cts : ℕ)
-    → not (here w ch) || quietLines (chan w c) (onLevel dcd) ≡ true
-    → KeptBy w c (linesCall c ch dcd cts)
-unfolding linesCall
-set-lines-kept A c ch dcd cts q =
-    call-kept A c ch _ _
-    (λ t. if-elim (λ (x : Answered). KeptBy A c (inA c x)) (leb 2 dcd || leb 2 cts) refl
-    (lines-kept (c .a) (onLevel dcd) (onLevel cts)
-    (or-right (here A ch) (quietLines (c .a) (onLevel dcd)) q t)))
-    refl
-set-lines-kept B c ch dcd cts q =
-    call-kept B c ch _ _
-    (λ t. if-elim (λ (x : Answered). KeptBy B c (inB c x)) (leb 2 dcd || leb 2 cts) refl
-    (lines-kept (c .b) (onLevel dcd) (onLevel cts)
-    (or-right (here B ch) (quietLines (c .b) (onLevel dcd)) q t)))
-    refl
+keeps : Keeps (heardPart part) test
+keeps = record {
+  wr0 = wr0-kept part;
+  wr1 = wr1-kept;
+  wr2 = wr2-kept;
+  wr3 = λ c v q. void q;
+  wr4 = λ c v n q. void q;
+  wr5 = λ c v q. wr5-kept c v;
+  wr6 = λ c v q. void q;
+  wr7 = λ c v q. wr7-kept c v;
+  data-writes = λ c v q. write-kept part c v;
+  data-reads = λ c q. void q;
+  transmits = λ c q. transmit-kept part c;
+  receives = λ c b q. void q;
+  lines = lines-kept;
+}
 
 pub quiet-keeps : (w : Which) (c : Chip) (e : Event) → quiet w c e ≡ true
     → sideOf w (happens c e .chip) ≡ sideOf w c
-unfolding acknowledge reti
-quiet-keeps w c HardReset q = void q
-quiet-keeps w c (ControlWrite ch v) q = write-kept w c ch v q
-quiet-keeps w c (ControlRead ch) q = read-kept w c ch
-quiet-keeps w c (DataWrite ch v) q = data-write-kept w c ch v
-quiet-keeps w c (DataRead ch) q = data-read-kept w c ch q
-quiet-keeps w c (Transmit ch) q = transmit-kept w c ch
-quiet-keeps w c (Receive ch bit) q = receive-kept w c ch bit q
-quiet-keeps w c (SetLines ch dcd cts) q = set-lines-kept w c ch dcd cts q
-quiet-keeps w c Acknowledge q = service-kept w c (acknowledged (pendingOf c) (serviceOf c))
-quiet-keeps w c Reti q = service-kept w c (ended (serviceOf c))
+quiet-keeps w c e q = quiet-kept (heardPart part) test keeps w c e q

@@ -7,8 +7,11 @@ use Rattle.queue.specs.declared.Queue.{Queue}
 use Rattle.asynchronous.specs.declared.Format.{Format}
 use Rattle.sdlc.specs.declared.Addressing.{Addressing}
 use Rattle.sdlc.specs.declared.Listener.{Listener}
+use Rattle.receiver.specs.declared.Receiver.{Receiver}
 use Rattle.receiver.specs.declared.Receiving.{Receiving}
 use Rattle.receiver.specs.Receiver.{listenerOf}
+use Rattle.settings.specs.declared.Registers.{Registers}
+use Rattle.settings.specs.declared.Lines.{Lines}
 use Rattle.settings.specs.Settings.{receivingOf}
 use Rattle.channel.specs.declared.Channel.{Channel}
 use Rattle.chip.specs.declared.Chip.{Chip}
@@ -31,9 +34,11 @@ pub record Side : Type 0 where
 abbrev pub side : Listener → Queue → Heeded → Side
 side s q g = record { listener = s; queue = q; settings = g }
 
+abbrev pub part : Registers → Lines → Receiver → Queue → Side
+part r l v q = side (listenerOf v) q (heeded (receivingOf r l))
+
 abbrev pub sideIn : Channel → Side
-sideIn c =
-    side (listenerOf (c .receiver)) (c .queue) (heeded (receivingOf (c .registers) (c .lines)))
+sideIn c = part (c .registers) (c .lines) (c .receiver) (c .queue)
 
 abbrev pub sideOf : Which → Chip → Side
 sideOf w c = sideIn (chan w c)

@@ -19,7 +19,7 @@ use Rattle.chip.specs.Chip.{onLevel, dataWriteCall, transmitCall}
 use Rattle.chip.specs.Event.{Event, DataWrite, Transmit}
 use Rattle.whole.specs.Come.{filledWith}
 use Rattle.stories.specs.Story.{Which, A, B, number, chan, happens, after}
-use Rattle.stories.specs.Sent.{Role, ticksBy, isTick, lineBit, lineOf, ticks}
+use Rattle.stories.specs.Sent.{ToSender, ticksBy, isTick, lineBit, lineOf, ticks}
 use Rattle.history.specs.Sending.Side.{Heeded, good, SenderSide, side, sendingIn, sideOf}
 use Rattle.history.specs.Sending.Side.{View, its-tick, its-write, other, view}
 use Rattle.whole.specs.Come as come
@@ -108,7 +108,7 @@ bit-length : (w : Which) (c : Chip) (e : Event)
     → length (lineBit (isTick w e) (happens c e .answer)) ≡ oneIf (isTick w e)
 bit-length w c e = go w (view w e)
   where
-    go : (w : Which) {e : Event} {r : Role} → View w e r
+    go : (w : Which) {e : Event} {r : ToSender} → View w e r
         → length (lineBit (ticksBy r) (happens c e .answer)) ≡ oneIf (ticksBy r)
     go A its-tick = unfold transmitCall transmitTick in refl
     go B its-tick = unfold transmitCall transmitTick in refl

@@ -10,16 +10,19 @@ use Rattle.common.specs.declared.Mode.the-variants.{Sdlc}
 use Rattle.sdlc.specs.declared.Framing.{Framing}
 use Rattle.sdlc.specs.declared.Framer.{Framer}
 use Rattle.sdlc.specs.Sending.{framing}
+use Rattle.sender.specs.declared.Sender.{Sender}
 use Rattle.sender.specs.declared.Sending.{Sending}
 use Rattle.sender.specs.Sender.{framerOf}
 use Rattle.sender.specs.Good.{Good}
+use Rattle.settings.specs.declared.Registers.{Registers}
+use Rattle.settings.specs.declared.Lines.{Lines}
 use Rattle.settings.specs.Settings.{sendingOf}
 use Rattle.channel.specs.declared.Channel.{Channel}
 use Rattle.chip.specs.declared.Chip.{Chip}
 use Rattle.chip.specs.Event.{Event, HardReset, ControlWrite, ControlRead, DataWrite, DataRead}
 use Rattle.chip.specs.Event.{Transmit, Receive, SetLines, Acknowledge, Reti}
 use Rattle.stories.specs.Story.{Which, number, chan}
-use Rattle.stories.specs.Sent.{Role, Ticks, Writes, Else, role}
+use Rattle.stories.specs.Sent.{ToSender, Ticks, Writes, Else, toSender}
 use Rattle.whole.specs.Come as come
 
 -- what SDLC heeds of the settings: "In SDLC all characters have eight bits and no parity .. no
@@ -63,8 +66,11 @@ side s h = record { sender = s; heeds = h }
 abbrev pub sendingIn : Channel → Sending
 sendingIn c = sendingOf (c .registers) (c .lines)
 
+abbrev pub part : Registers → Lines → Sender → SenderSide
+part r l s = side (framerOf s) (heeded (sendingOf r l))
+
 abbrev pub sideIn : Channel → SenderSide
-sideIn c = side (framerOf (c .sender)) (heeded (sendingIn c))
+sideIn c = part (c .registers) (c .lines) (c .sender)
 
 abbrev pub sideOf : Which → Chip → SenderSide
 sideOf w c = sideIn (chan w c)
@@ -77,12 +83,12 @@ latchOf w c = chan w c .sender .shared .latch
 
 -- What an event is to this sender, as something to match on: a proof by roles has three cases,
 -- whatever the number of events
-pub data View (w : Which) : Event → Role → Type 0 where
+pub data View (w : Which) : Event → ToSender → Type 0 where
   its-tick : View w (Transmit (number w)) Ticks
   its-write : {v : ℕ} → View w (DataWrite (number w) v) (Writes v)
   other : {e : Event} → View w e Else
 
-pub view : (w : Which) (e : Event) → View w e (role w e)
+pub view : (w : Which) (e : Event) → View w e (toSender w e)
 view w HardReset = other
 view w (ControlWrite ch v) = other
 view w (ControlRead ch) = other

@@ -1,24 +1,20 @@
--- Bytes and their bits: a byte as the receiver assembles it, the check as two bytes, and one
--- flipped bit, which the check always finds. Assumes nothing.
+-- Bytes and their bits: a byte as the receiver assembles it, and the check as two bytes. Assumes
+-- nothing.
 use mathlib.Core.Path.{_≡_, refl, sym, ap, ap₂, _∙_}
-use mathlib.Core.Logic.{_≢_}
-use mathlib.Core.Bool.{Bool, true, false, not}
+use mathlib.Core.Bool.{Bool}
 use mathlib.Core.List.{List, [], _∷_, _++_, append-nil}
-use Prim.Native.Nat.{ℕ, zero, suc, _+_, _*_, _/_, _%_, _≤_, _<_}
+use Prim.Native.Nat.{ℕ, zero, suc, _+_, _*_, _<_}
 use native.Mathlib.Omega.{arith}
 use lib.Dec.{T, eqb, eqb→eq}
-use lib.Bits.{bitXor, differ, xor-self, xor-zero-l, xor-zero-r}
-use lib.ListN.{length, take, drop, replicate, length-append, length-take, length-drop}
+use lib.ListN.{length, take, drop, length-append, length-take, length-drop}
 use lib.ListN.{take-append-drop}
-use Rattle.common.specs.Choice.{if_then_else_}
-use Rattle.common.specs.Tools.{below, below→, eqb-elim}
+use Rattle.common.specs.Tools.{below, below→}
 use Rattle.line.specs.Bits.{lowBits, textBits}
-use Rattle.line.specs.Check.{sdlc, ones, differs, checkStep, checkOver, checkBits, remainder}
+use Rattle.line.specs.Check.{sdlc, ones, checkOver, checkBits, remainder}
 use Rattle.line.specs.Frame.{noteBits, checkOf, contentOf}
 use Rattle.line.specs.Laws.Bits.{lowBits-fromLow, fromLow-lt, textBits-join}
 use Rattle.line.specs.Bits.{fromLow, Below, below-none as none, below-more as more}
-use Rattle.line.specs.Laws.Xor.{xor-assoc, xor-low, not-differs}
-use Rattle.line.specs.Laws.Check.{check-join, step-xor, check-linear, step-lt, checkBits-length}
+use Rattle.line.specs.Laws.Check.{checkBits-length}
 use Rattle.line.specs.Laws.Frame.{content-good}
 use Rattle.sdlc.specs.Hearing.{shiftIn}
 use Rattle.line.specs.Frame.{checkBytes, withCheck}
@@ -113,46 +109,3 @@ of-bits (suc n) bs h =
           ∙ take-append-drop 8 bs;
       count = ap suc (k .count);
     }
-
--- One flipped bit is always found: the two registers then differ, and a difference that is not 0
--- stays so over any bits
-
-step-live : (r : ℕ) → 1 ≤ r → r < 65536 → 1 ≤ checkStep sdlc r false
-unfolding checkStep
-step-live r h l =
-    eqb-elim (λ t. 1 ≤ (if differs t false then bitXor (r % 32768 * 2) sdlc else r % 32768 * 2))
-    (r / 32768 % 2) 1
-    (λ e.
-    let v : ℕ = r % 32768 * 2 in
-    let z : v % 2 ≡ 0 = omega arith in
-    let o : bitXor v sdlc % 2 ≡ 1 = xor-low v sdlc ∙ ap (λ (x : ℕ). differ x 1) z in
-    omega arith)
-    (λ e. omega arith)
-
-zeros-live : (r n : ℕ) → 1 ≤ r → r < 65536 → 1 ≤ checkOver sdlc r (replicate n false)
-unfolding checkOver
-zeros-live r zero h l = h
-zeros-live r (suc n) h l =
-    zeros-live (checkStep sdlc r false) n (step-live r h l) (step-lt sdlc (omega arith) r false)
-
-pub flip-found : (r k : ℕ) (xs ys : List Bool) (b : Bool)
-    → checkOver sdlc r (xs ++ (b ∷ ys)) ≡ k → checkOver sdlc r (xs ++ (not b ∷ ys)) ≢ k
-unfolding checkOver
-flip-found r k xs ys b e f =
-    let s = checkOver sdlc r xs in
-    let x = checkStep sdlc s b in
-    let y = checkStep sdlc s (not b) in
-    let one : checkStep sdlc 0 true ≡ sdlc = unfold checkStep in refl in
-    let p : y ≡ bitXor x sdlc =
-    ap₂ (λ (u : ℕ) (c : Bool). checkStep sdlc u c) (sym (xor-zero-r s)) (not-differs b)
-    ∙ step-xor sdlc s 0 b true ∙ ap (bitXor x) one in
-    let d : bitXor x y ≡ sdlc =
-    ap (bitXor x) p ∙ sym (xor-assoc x x sdlc)
-    ∙ ap (λ (u : ℕ). bitXor u sdlc) (xor-self x) ∙ xor-zero-l sdlc in
-    let z : checkOver sdlc sdlc (replicate (length ys) false) ≡ 0 =
-    ap (λ (u : ℕ). checkOver sdlc u (replicate (length ys) false)) (sym d)
-    ∙ sym (check-linear sdlc x y ys)
-    ∙ ap₂ bitXor (sym (check-join sdlc r xs (b ∷ ys)) ∙ e)
-    (sym (check-join sdlc r xs (not b ∷ ys)) ∙ f)
-    ∙ xor-self k in
-    omega (arith, zeros-live sdlc (length ys) (omega arith) (omega arith))

@@ -1,13 +1,13 @@
--- `events::line_of` meets its contract: the numbers that are left, put from here, always end as all seven do. Assumes nothing.
+-- `events::told_line` meets its contract: the numbers that are left, put from here, always end as all seven do. Assumes nothing.
 use borrow.Author.Needs.{needs}
 use Prim.Native.Nat.{_≤_}
 use mathlib.Core.Path.{_≡_, refl}
 use native.Mathlib.Omega.{arith}
 use Rattle.text.specs.Text.{emptyLine}
-use Rattle.events.specs.Run.{numbersLeft, lineOf}
+use Rattle.events.specs.Run.{numbersLeft, toldLine}
 use Rattle.events.proofs.Laws.{numbers-step, numbers-none}
-use Rattle.events.proofs.line_of.Statement.{statement}
-use Rattle.events.proofs.line_of.Tie as tie
+use Rattle.events.proofs.told_line.Statement.{statement}
+use Rattle.events.proofs.told_line.Tie as tie
 
 abbrev Inv-loop : tie.InvT-loop
 Inv-loop o l₀ left₀ l left = (numbersLeft left o l ≡ numbersLeft 7 o emptyLine) × (left ≤ 7)
@@ -52,13 +52,13 @@ loop-again c =
     )
 
 returns : tie.Need-returns Inv-loop μ-loop
-unfolding lineOf
+unfolding toldLine
 returns c =
     let l = c .before .loop in
     rw (numbers-none (l .left) (c .before .before .before .args .o) (l .l) (c .loop-test .left)) at (l .inv .0)
 
-pub line-of-spec : {M : Type 1} → statement M
-line-of-spec =
+pub told-line-spec : {M : Type 1} → statement M
+told-line-spec =
     tie.close
     (tie.spec
     Inv-loop
