@@ -135,7 +135,8 @@ conserved w (hears {c = c} {e = x} {st = st} {b = b} z s i) r k q h es d e m =
     (follows w c x (subst Hearing (sym (ap (λ (y : Side). y .heeds) e)) d)) in
     let space : roomFor q u ≡ true = ap (λ (y : Side). roomy y j b) (sym e) ∙ s in
     let n = conserved w i (u .reception) (u .check) (queuedBy q u) h (es ++ handed u) d
-    (f ∙ ap (heardSide j b) e) (queue-takes (u .some) (u .entry) m space (hear-plain (heeding g j) r k b)) in
+    (f ∙ ap (heardSide j b) e)
+    (queue-takes (u .some) (u .entry) m space (hear-plain (heeding g j) r k b)) in
     let ts = momentsOf w (happens c x .chip) st in
     record {
       last = n .last;
