@@ -3,11 +3,11 @@
 use mathlib.Core.Path.{_≡_}
 use mathlib.Core.List.{List}
 use Prim.Native.Nat.{ℕ, _+_, _-_, _*_, _/_, _%_, _<_}
-use lib.Dec.{leb, ltb}
-use lib.ListN.{length, getD}
+use lib.Dec.{ltb}
+use lib.ListN.{length}
 use Rattle.common.specs.Choice.{if_then_else_}
 use Rattle.stamp.specs.Stamp.{runIn}
-use Rattle.imprint.specs.Imprint.{stampRoom, twelveBy}
+use Rattle.imprint.specs.Imprint.{stampFor, stampRoom, twelveBy}
 use Rattle.bytewise.specs.declared.Press.{Press}
 
 -- a buffer and the press over it
@@ -28,10 +28,6 @@ runOf s = s .press .row / 256
 
 abbrev pub Ready : Plate → Type 0
 Ready s = (s .press .row ≡ runOf s * 256) × (runOf s < 5)
-
--- the stamp of a byte in a row; 0 where the table has none
-unfoldable pub stampFor : List ℕ → ℕ → ℕ → ℕ
-stampFor stamps row v = if leb row 1024 then getD stamps (row + v % 256) 0 else 0
 
 -- the press behind a stamp at a place, and the stamp's cells with it
 abbrev pub behind : ℕ → ℕ → Press

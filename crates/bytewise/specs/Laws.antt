@@ -13,9 +13,9 @@ use Rattle.line.specs.Insertion.{runOver}
 use Rattle.line.specs.Laws.Insertion.{runOver-lt}
 use Rattle.stamp.specs.Stamp.{sentAs, twelve, runIn, stampTable, fourTable}
 use Rattle.stamp.specs.Laws.{Says, table-says}
-use Rattle.imprint.specs.Imprint.{stampRoom}
+use Rattle.imprint.specs.Imprint.{stampFor, stampRoom}
 use Rattle.imprint.specs.Laws.{twelve-is, over-gone}
-use Rattle.bytewise.specs.Bytewise.{Plate, plate, pressAt, runOf, Ready, stampFor}
+use Rattle.bytewise.specs.Bytewise.{Plate, plate, pressAt, runOf, Ready}
 use Rattle.bytewise.specs.Bytewise.{stamped, byteStamped}
 
 -- A byte by any tables, where there is room

@@ -1,30 +1,18 @@
 // A byte of content put down at once, by tables that are lent, whatever they hold. Where there is no room, nothing is put down. Assumes nothing.
 use imprint::lacks_cells;
+use imprint::stamp_for;
+use imprint::two_fit;
 ghost use mathlib.Core.Path.{_≡_};
-ghost use mathlib.Core.Bool.{_&&_};
 ghost use Prim.Native.Nat.{_+_, _≤_, _<_};
-ghost use lib.Dec.{leb};
 ghost use lib.ListN.{length};
 ghost use lib.Seq.{sets};
 ghost use Rattle.imprint.specs.Imprint.{fourBy, twelveBy};
-ghost use Rattle.bytewise.specs.Bytewise.{plate, behind, stampFor, byteStamped, twoStamped};
+ghost use Rattle.bytewise.specs.Bytewise.{plate, behind, byteStamped, twoStamped};
 
 // Where the next byte goes, and the row of the stamps for it: 256 for each of the ones in a row before it.
 pub struct Press {
     pub at: usize,
     pub row: usize,
-}
-
-// Where the row of four ones begins, the last of five.
-const LAST_ROW: usize = 1024;
-// The cells that two stamps take at most, whatever the first one says: fifteen, and twelve stored.
-const TWO_STAMPS: usize = 27;
-
-fn wide(x: u8) -> usize
-    ensures { λ r. ⌜ r ≡ x ⌝ }
-    ensures { λ r. ⌜ r < 256 ⌝ }
-{
-    x as usize
 }
 
 fn size(x: u16) -> usize
@@ -59,28 +47,6 @@ fn put_twelve(out: &mut [u8], fours: &[u32; 16], at: usize, e: u16)
     put_four(out, fours, at + 8, size(e / 2048 % 4));
 }
 
-// The stamp of a byte in a row that the table has. The byte's place is taken first, since the row
-// is known last: it is cut out of the stamp before, and nothing else is between the two looks.
-fn stamp_in(stamps: &[u16; 1280], row: usize, v: u8) -> u16
-    requires { ⌜ row ≤ 1024 ⌝ }
-    ensures { λ r. ⌜ r ≡ stampFor (now (stamps .entry)) row v ⌝ }
-{
-    let byte = wide(v);
-    let all = &stamps[..];
-    let rows = &all[byte..];
-    rows[row]
-}
-
-// The stamp of a byte in any row.
-fn stamp_for(stamps: &[u16; 1280], row: usize, v: u8) -> u16
-    ensures { λ r. ⌜ r ≡ stampFor (now (stamps .entry)) row v ⌝ }
-{
-    if row <= LAST_ROW {
-        return stamp_in(stamps, row, v);
-    }
-    0
-}
-
 // A stamp's cells where there is room for them, and where the next byte goes.
 fn put_stamp(out: &mut [u8], fours: &[u32; 16], at: usize, e: u16) -> Press
     requires { ⌜ at + 12 ≤ length (now out) ⌝ }
@@ -108,40 +74,6 @@ pub fn put_byte(out: &mut [u8], stamps: &[u16; 1280], fours: &[u32; 16], p: Pres
     put_stamp(out, fours, at, e)
 }
 
-// Whether there is room for two bytes' cells, and a row for the first.
-pub fn two_fit(len: usize, p: Press) -> bool
-    ensures { λ r. ⌜ r ≡ leb (p .at + 27) len && leb (p .row) 1024 ⌝ }
-{
-    if len < TWO_STAMPS {
-        return false;
-    }
-    (p.at <= len - TWO_STAMPS) & (p.row <= LAST_ROW)
-}
-
-// Two bytes of content with their inserted zeros, where they fit.
-fn put_fitting(
-    out: &mut [u8],
-    stamps: &[u16; 1280],
-    fours: &[u32; 16],
-    p: Press,
-    v: u8,
-    w: u8,
-) -> Press
-    requires { ⌜ p .at + 27 ≤ length (now out) ⌝ }
-    requires { ⌜ p .row ≤ 1024 ⌝ }
-    ensures { λ r. ⌜ r ≡ twoStamped (now (stamps .entry)) (now (fours .entry))
-        (plate (now (out .entry)) p) v w .press ⌝ }
-    ensures { λ r. ⌜ now (out .exit) ≡ twoStamped (now (stamps .entry)) (now (fours .entry))
-        (plate (now (out .entry)) p) v w .buffer ⌝ }
-{
-    let at = p.at;
-    let e = stamp_in(stamps, p.row, v);
-    let q = put_stamp(out, fours, at, e);
-    let next = q.at;
-    let f = stamp_for(stamps, q.row, w);
-    put_stamp(out, fours, next, f)
-}
-
 // Two bytes of content with their inserted zeros. Where they fit, one test serves both.
 pub fn put_two(
     out: &mut [u8],
@@ -156,8 +88,14 @@ pub fn put_two(
     ensures { λ r. ⌜ now (out .exit) ≡ twoStamped (now (stamps .entry)) (now (fours .entry))
         (plate (now (out .entry)) p) v w .buffer ⌝ }
 {
-    if two_fit(out.len(), p) {
-        return put_fitting(out, stamps, fours, p, v, w);
+    let at = p.at;
+    let row = p.row;
+    if two_fit(out.len(), at, row) {
+        let e = stamp_for(stamps, row, v);
+        let r = put_stamp(out, fours, at, e);
+        let next = r.at;
+        let f = stamp_for(stamps, r.row, w);
+        return put_stamp(out, fours, next, f);
     }
     let q = put_byte(out, stamps, fours, p, v);
     put_byte(out, stamps, fours, q, w)

@@ -2,7 +2,7 @@
 use bytewise::Press;
 use bytewise::put_byte;
 use bytewise::put_two;
-use bytewise::two_fit;
+use imprint::two_fit;
 use lookup::looked_up;
 ghost use mathlib.Core.Path.{_≡_};
 ghost use Rattle.tabled.specs.Tabled.{contentStamped};
@@ -25,7 +25,7 @@ pub fn put_content(
     let mut q = Press { at: 8, row: 0 };
     let mut m = PRESET;
     let mut i = 0;
-    while (1 < note.len() - i) & two_fit(out.len(), q) {
+    while (1 < note.len() - i) & two_fit(out.len(), q.at, q.row) {
         let v = note[i];
         let w = note[i + 1];
         q = put_two(out, stamps, fours, q, v, w);

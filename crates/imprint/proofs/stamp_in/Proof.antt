@@ -1,4 +1,4 @@
--- `bytewise::stamp_in` meets its contract: what is read at a row behind a byte's place is what
+-- `imprint::stamp_in` meets its contract: what is read at a row behind a byte's place is what
 -- stands at their sum. Assumes nothing.
 use mathlib.Core.Path.{_≡_, ap, _∙_}
 use mathlib.Core.List.{List}
@@ -9,9 +9,9 @@ use borrow.Author.Tests.{le-leb}
 use denote.Ref.{now}
 use lib.ListN.{length, getD, take, drop}
 use lib.Seq.{getD-take, getD-drop}
-use Rattle.bytewise.specs.Bytewise.{stampFor}
-use Rattle.bytewise.proofs.stamp_in.Statement.{statement}
-use Rattle.bytewise.proofs.stamp_in.Tie as tie
+use Rattle.imprint.specs.Imprint.{stampFor}
+use Rattle.imprint.proofs.stamp_in.Statement.{statement}
+use Rattle.imprint.proofs.stamp_in.Tie as tie
 
 -- a part from a place on, read further on
 further : (l : List ℕ) (byte row : ℕ) → row < length l - byte

@@ -1,9 +1,9 @@
--- `bytewise::stamp_for` meets its contract: each return by the facts on its way. Assumes nothing.
+-- `imprint::stamp_for` meets its contract: each return by the facts on its way. Assumes nothing.
 use borrow.Author.Needs.{needs}
 use borrow.Author.Tests.{lt-leb}
-use Rattle.bytewise.specs.Bytewise.{stampFor}
-use Rattle.bytewise.proofs.stamp_for.Statement.{statement}
-use Rattle.bytewise.proofs.stamp_for.Tie as tie
+use Rattle.imprint.specs.Imprint.{stampFor}
+use Rattle.imprint.proofs.stamp_for.Statement.{statement}
+use Rattle.imprint.proofs.stamp_for.Tie as tie
 
 stamp-in-requires : tie.Need-stamp-in-requires
 stamp-in-requires c κs = search needs
