@@ -16,8 +16,8 @@ use sdlc::Listened;
 use sdlc::Listener;
 use shared::preset_for;
 ghost use mathlib.Core.Path.{_≡_};
-ghost use Rattle.receiver.specs.Receiver.{listenerOf, listenerIn, byListener, byAssembly, byMatched, hearInBlocks, silent};
-ghost use Rattle.receiver.specs.Receiver.{reset, dropped, enterHunt, modeChanged, presetCheck, hunting, hear};
+ghost use Rattle.receiver.specs.Receiver.{listenerOf, listenerIn, receptionIn, byListener, byAssembly, byMatched, hearInBlocks, silent};
+ghost use Rattle.receiver.specs.Receiver.{reset, dropped, enterHunt, modeChanged, presetCheck, hunting, showsAs, hear};
 
 // A channel's settings as a tick finds them. on: WR3 D0 and, with auto enables, DCD.
 pub struct Receiving {
@@ -80,6 +80,15 @@ impl Receiver {
         s.content = content;
         s.check = l.check;
         s.broken = l.broken;
+        s
+    }
+
+    // What Monosync and Bisync have heard, put back.
+    pub fn with_reception(self, reception: Reception) -> Receiver
+        ensures { λ r. ⌜ r ≡ receptionIn self reception ⌝ }
+    {
+        let mut s = self;
+        s.reception = reception;
         s
     }
 
@@ -166,6 +175,15 @@ impl Receiver {
     {
         let mode = g.mode;
         (in_sdlc(mode) & self.content.hunt) | (in_blocks(mode) & self.reception.hunt)
+    }
+
+    // Hunt in every mode and D7 are as in that one: RR0 shows no difference.
+    pub fn shows_as(self, was: Receiver) -> bool
+        ensures { λ r. ⌜ r ≡ showsAs self was ⌝ }
+    {
+        (self.broken == was.broken)
+            & ((self.content.hunt == was.content.hunt)
+                & (self.reception.hunt == was.reception.hunt))
     }
 
     // A tick that hands nothing over.

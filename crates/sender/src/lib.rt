@@ -131,7 +131,7 @@ impl Sender {
     }
 
     // Another unit of Monosync or Bisync, and what all modes share.
-    fn with_block(self, block: BlockUnit, shared: Shared) -> Sender
+    pub fn with_block(self, block: BlockUnit, shared: Shared) -> Sender
         ensures { λ r. ⌜ r ≡ blockIn self block shared ⌝ }
     {
         let unit = self.unit;
