@@ -12,7 +12,7 @@ use Rattle.flags.specs.declared.Between.{Between}
 use Rattle.notes.specs.NoteList.{Reading, whole, refuses, restFrom, firstNote, readList, scanned}
 use Rattle.report.specs.Report.{reported, reportOf, pagesOf, rowsIn}
 use Rattle.chip.specs.declared.Chip.{Chip}
-use Rattle.chip.specs.Refusals.{firstRow}
+use Rattle.promises.specs.Refusals.{firstRow}
 use Rattle.listline.specs.ListLine.{chipAfter}
 use Rattle.station.specs.Station.{sendOf, listedOf}
 use Rattle.refusing.specs.Refusing.{lengthBad, listLong, listNone, readingNumber, list-refused}

@@ -1,3 +1,2 @@
 -- The channel's laws, a file for each idea.
-pub mod Sound
 pub mod Within

@@ -3,5 +3,4 @@ pub mod Channel
 pub mod Control
 pub mod Events
 pub mod Within
-pub mod Sound
 pub mod Laws

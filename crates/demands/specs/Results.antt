@@ -4,7 +4,7 @@
 use mathlib.Core.Path.{_≡_, sym, _∙_}
 use mathlib.Core.List.{List}
 use Prim.Native.Nat.{ℕ}
-use Rattle.chip.specs.Laws.Contracts.{Allows, one-result}
+use Rattle.promises.specs.Contracts.{Allows, one-result}
 
 -- The result alone is a definition's value at the inputs, the chip and what lent parts held among
 -- them

@@ -4,8 +4,8 @@ use mathlib.Core.Bool.{Bool, false}
 use Rattle.chip.specs.declared.Chip.{Chip}
 use Rattle.chip.specs.Chip.{endsService}
 use Rattle.chip.specs.Event.{Event}
-use Rattle.chip.specs.Isolation.{On, control-write, control-read, data-write, data-read, transmit}
-use Rattle.chip.specs.Isolation.{receive, set-lines}
+use Rattle.promises.specs.Isolation.{On, control-write, control-read, data-write, data-read, transmit}
+use Rattle.promises.specs.Isolation.{receive, set-lines}
 
 -- an event on A that may end a source of B in service
 abbrev pub actsAsReti : {e : Event} → Chip → On 0 e → Bool

@@ -6,7 +6,7 @@ use Prim.Native.Nat.{ℕ, _/_}
 use lib.Dec.{eqb}
 use Rattle.line.specs.Bits.{odd}
 use Rattle.chip.specs.declared.Chip.{Chip}
-use Rattle.chip.specs.Refusals.{Row, pointerOf}
+use Rattle.promises.specs.Refusals.{Row, pointerOf}
 
 -- D7 to D2 of a byte
 abbrev pub d7 : ℕ → Bool

@@ -56,6 +56,10 @@ pub record Told : Type 0 where
   pub seven-bits : bytes happens (short oddParity seven ++ hears 0 10 0b0100000111) 0 1 ≡ 0xC1 ∷ []
   pub six-bits : bytes happens (short oneStop six ++ hears 0 8 0b01111101) 0 1 ≡ 0xDF ∷ []
   pub five-bits : bytes happens (short evenParity five ++ hears 0 8 0b01000011) 0 1 ≡ 0xE1 ∷ []
+  -- 02, P1: "the true rule for asynchronous sending": of what reads 111000DD and 1111000D all five
+  -- bits are given
+  pub no-shape :
+      bytes happens (short oneStop five ++ hears 0 14 0b01000010100011) 0 2 ≡ 0xE1 ∷ 0xF1 ∷ []
   -- "WR4: D0 parity, D1 even"; RR1 "D4 parity"
   pub odd-wanted : reads happens (hearing 0 oddParity ++ evenly) 0 1 ≡ 0x11
   pub odd-heard : reads happens (hearing 0 oddParity ++ oddly) 0 1 ≡ 0x01
@@ -102,6 +106,7 @@ told = record {
   seven-bits = refl;
   six-bits = refl;
   five-bits = refl;
+  no-shape = refl;
   odd-wanted = refl;
   odd-heard = refl;
   even-wanted = refl;

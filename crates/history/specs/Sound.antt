@@ -8,8 +8,8 @@ use Rattle.sdlc.specs.Sound.{SoundUnit}
 use Rattle.chip.specs.declared.Chip.{Chip}
 use Rattle.chip.specs.Chip.{hardReset}
 use Rattle.chip.specs.Event.{Event}
-use Rattle.chip.specs.Sound.{SoundChip}
-use Rattle.chip.specs.Laws.Sound.{hard-reset-sound, step-sound}
+use Rattle.soundness.specs.Chip.{SoundChip}
+use Rattle.soundness.specs.Laws.Chip.{hard-reset-sound, step-sound}
 use Rattle.stories.specs.Story.{Which, A, B, chan, happens, after}
 
 pub after-sound : (c : Chip) (st : List Event) → SoundChip c → SoundChip (after c st)

@@ -4,13 +4,15 @@ use mathlib.Core.Bool.{Bool, true, false, not, _&&_, _||_}
 use Prim.Native.Nat.{ℕ, _+_, _-_, _%_, _/_}
 use lib.Dec.{eqb, ltb}
 use Rattle.common.specs.Choice.{if_then_else_}
+use Rattle.common.specs.Mode.{inBlocks}
 use Rattle.line.specs.Bits.{odd, lowBits}
 use Rattle.line.specs.Check.{ones, complement, checkOver}
 use Rattle.queue.specs.Queue.{waits}
 use Rattle.bytesync.specs.Hearing.{block, noBlock, reception, receptionAt}
-use Rattle.settings.specs.Settings.{polynomialIn}
+use Rattle.settings.specs.Settings.{modeIn, polynomialIn, store7}
 use Rattle.channel.specs.declared.Answer.the-variants.{Gave}
 use Rattle.channel.specs.Answer.{answerValue}
+use Rattle.channel.specs.Channel.{withRegisters}
 use Rattle.chip.specs.Event.{step}
 use Rattle.tales.specs.Tale.{Happens}
 use Rattle.tales.specs.Kind.{valueOf, isTick, isBit, isRead, isWrite, isPreset}

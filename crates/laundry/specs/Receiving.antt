@@ -55,6 +55,10 @@ pub record Told : Type 0 where
   pub leading :
       bytes happens (listening stripping ++ (sync ++ (sync ++ (hears 0 8 0b11111111 ++ sync)))) 0 2
       ≡ 0xFF ∷ 0x16 ∷ []
+  -- a sync is what WR7 says when the character is complete, not what it said at the match
+  pub written-anew :
+      reads happens (listening stripping ++ (sync ++ (set 0 7 0x35 ++ hears 0 8 0b10101100))) 0 0
+      ≡ 0x44
   -- "Enter Hunt starts the search again, RR0 D4 showing it": half of a sync from before does not
   -- count
   pub searching :
@@ -79,6 +83,7 @@ told = record {
   waits = refl;
   preset = refl;
   leading = refl;
+  written-anew = refl;
   searching = refl;
   found = refl;
   changed = refl;

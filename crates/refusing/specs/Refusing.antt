@@ -27,8 +27,8 @@ use Rattle.notes.specs.NoteList.{Reading, whole, refuses, restFrom, firstNote, 
 use Rattle.notes.specs.NoteList.{readList}
 use Rattle.chip.specs.declared.Chip.{Chip}
 use Rattle.chip.specs.Event.{Event}
-use Rattle.chip.specs.Refusals.{Row, rowsOf, firstRow}
-use Rattle.chip.specs.Laws.Refusals.{refused-by-the-table, refused-changes-nothing}
+use Rattle.promises.specs.Refusals.{Row, rowsOf, firstRow}
+use Rattle.promises.specs.Laws.Refusals.{refused-by-the-table, refused-changes-nothing}
 use Rattle.channel.specs.Answer.{answerNumber}
 use Rattle.stories.specs.Story.{happens}
 use Rattle.zeros.specs.declared.Counted.the-variants as counted

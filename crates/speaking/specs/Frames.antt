@@ -17,6 +17,10 @@ holding v = framing 0 ++ writes 0 v
 abbrev unchecked : List Event
 unchecked = set 0 4 sdlc ++ set 0 5 sendEight ++ command 0 clearUnderrun
 
+-- WR5: on, length 00, no check
+abbrev five : List Event
+five = set 0 5 0b00001000
+
 -- the byte 00 has been sent to its last bit, and four bits of its check
 abbrev sent : List Event
 sent = holding 0 ++ ticks 0 16
@@ -47,6 +51,10 @@ pub record Told : Type 0 where
       line happens (holding 0xFF) 0 42 ≡ digits 42 0b011111101111101110000000011111011101111110
   pub byte-88 :
       line happens (holding 0x88) 0 41 ≡ digits 41 0b01111110000100010001110000011111001111110
+  -- "In SDLC all characters have eight bits .. no matter what WR3, WR4, WR5 and WR7 hold."; 02, P1:
+  -- "the true rule for asynchronous sending": F0, 1111000D, is eight bits here
+  pub no-shape :
+      line happens (set 0 4 sdlc ++ five ++ writes 0 0xF0) 0 16 ≡ flagBits ++ digits 8 0b00001111
   -- "After five ones in a row in byte and check bits, counted on from the opening flag": over two
   -- bytes, and from a byte into its check
   pub over-bytes :
@@ -95,6 +103,7 @@ told = record {
   byte-00 = refl;
   byte-ff = refl;
   byte-88 = refl;
+  no-shape = refl;
   over-bytes = refl;
   into-check = refl;
   no-check = refl;

@@ -4,11 +4,14 @@ use mathlib.Core.Bool.{Bool, true, false, not, _&&_}
 use Prim.Native.Nat.{_+_, _-_, _*_, _/_, _%_}
 use Rattle.common.specs.Choice.{if_then_else_}
 use lib.Dec.{eqb}
+use Rattle.common.specs.Mode.{inSdlc}
 use Rattle.line.specs.Bits.{odd, oneIf}
+use Rattle.line.specs.Check.{sdlc, checkOver}
+use Rattle.shapes.specs.Sent.{bitsSent, sentBits}
 use Rattle.asynchronous.specs.Sending.{noCharacter}
-use Rattle.sdlc.specs.declared.LineUnit.the-variants.{Mark, Flag}
+use Rattle.sdlc.specs.declared.LineUnit.the-variants.{Mark, Flag, Byte}
 use Rattle.sdlc.specs.Sending.{insertion, aborting, checking, noBitLeft}
-use Rattle.settings.specs.Settings.{store3, store4, store5, stopField, autoEnables, sends}
+use Rattle.settings.specs.Settings.{store3, store4, store5, stopField, autoEnables, sends, modeIn}
 use Rattle.channel.specs.declared.Answer.the-variants.{Gave}
 use Rattle.channel.specs.declared.Channel.{Channel}
 use Rattle.channel.specs.Channel.{withStatus}
@@ -18,7 +21,7 @@ use Rattle.chip.specs.Event.{Event, Transmit, step}
 use Rattle.tales.specs.Tale.{Happens, after, times}
 use Rattle.tales.specs.Kind.{valueOf, isRead, isData, isTick, isCommand, isWrite}
 use Rattle.tales.specs.Parts.{withWr5, withUnit, withInsertion, withCharacter}
-use Rattle.tales.specs.Parts.{withBuffer, withLatch}
+use Rattle.tales.specs.Parts.{withBuffer, withLatch, withSentCheck}
 use Rattle.tales.specs.Wrong.{butA, but, firstA, takingA, saying}
 
 -- a tick of A has loaded a byte or a character

@@ -102,6 +102,21 @@ withParity c p e =
       even = e;
     })
 
+-- the bits that a character under way has
+abbrev pub withHeardBits : Channel → ℕ → Channel
+withHeardBits c v =
+    let a = c .receiver .assembly in
+    withAssembly c (record {
+      wait = a .wait;
+      left = a .left;
+      bits = v;
+      weight = a .weight;
+      odd = a .odd;
+      blank = a .blank;
+      parity = a .parity;
+      even = a .even;
+    })
+
 abbrev pub withHeardCheck : Channel → ℕ → Channel
 withHeardCheck c k =
     let v = c .receiver in

@@ -12,7 +12,7 @@ use Rattle.stories.specs.Story.{Which, chan}
 use Rattle.history.specs.Sending.Side.{sendingIn, sideOf, fullOf, latchOf, good, good-heeded, side}
 use Rattle.shared.specs.Shared.{shared}
 use Rattle.sdlc.specs.Sending.{insertion, framer}
-use Rattle.chip.specs.Sound.{SoundChip}
+use Rattle.soundness.specs.Chip.{SoundChip}
 use Rattle.history.specs.Sound.{unit-sound}
 
 -- "Start during a flag with the SDLC sender on .., buffer empty, check preset to ones and included,

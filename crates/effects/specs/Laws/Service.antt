@@ -14,8 +14,8 @@ use Rattle.chip.specs.Chip.{endsService, controlWriteA, controlWrite}
 use Rattle.chip.specs.Chip.{controlReadCall, dataWriteCall}
 use Rattle.chip.specs.Chip.{dataReadCall, transmitCall, receiveCall, linesCall}
 use Rattle.chip.specs.Event.{Event, HardReset, ControlWrite, Acknowledge, Reti, step}
-use Rattle.chip.specs.Isolation.{On, control-write, control-read, data-write, data-read, transmit}
-use Rattle.chip.specs.Isolation.{receive, set-lines}
+use Rattle.promises.specs.Isolation.{On, control-write, control-read, data-write, data-read, transmit}
+use Rattle.promises.specs.Isolation.{receive, set-lines}
 use Rattle.effects.specs.Service.{actsAsReti}
 
 -- "7 as RETI (A only, none in B)"

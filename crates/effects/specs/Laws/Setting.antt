@@ -10,8 +10,8 @@ use Rattle.settings.specs.Settings.{notBuilt}
 use Rattle.channel.specs.Answer.{answerNumber}
 use Rattle.chip.specs.declared.Chip.{Chip}
 use Rattle.chip.specs.Event.{ControlWrite, step}
-use Rattle.chip.specs.Refusals.{channelAbove, pointerOf, firstRow}
-use Rattle.chip.specs.Laws.Refusals.{refused-by-the-table}
+use Rattle.promises.specs.Refusals.{channelAbove, pointerOf, firstRow}
+use Rattle.promises.specs.Laws.Refusals.{refused-by-the-table}
 use Rattle.effects.specs.Setting.{settingRefused, refusedSetting}
 
 -- for all 256 bytes

@@ -23,21 +23,21 @@ use Rattle.settings.specs.declared.Lines.{Lines}
 use Rattle.settings.specs.Settings.{store5, store6, store7, commandIn, presetIn}
 use Rattle.settings.specs.Settings.{pointerIn, entersHunt, modeOf, modeIn, notBuilt, sendingOf}
 use Rattle.settings.specs.Settings.{receivingOf}
 use Rattle.channel.specs.declared.Side.{Side}
 use Rattle.channel.specs.declared.Side.the-variants.{A, B}
 use Rattle.channel.specs.declared.Channel.{Channel}
 use Rattle.channel.specs.declared.Answered.{Answered}
 use Rattle.channel.specs.Channel.{withRegisters, withSender, withReceiver, withQueue}
 use Rattle.channel.specs.Channel.{withLines}
 use Rattle.channel.specs.Channel.{withPointer, settled, resetWith}
 use Rattle.channel.specs.Control.{commanded, preset, commandStep, presetStep, writeWr0}
 use Rattle.channel.specs.Control.{setWr1}
 use Rattle.channel.specs.Control.{setWr2, setWr3, setWr4, setRegister, controlWritten}
 use Rattle.channel.specs.Control.{controlRead}
 use Rattle.channel.specs.Events.{dataWritten, dataRead, afterTick, transmitTick, queued}
 use Rattle.channel.specs.Events.{heardBy}
 use Rattle.channel.specs.Events.{receiveTick, linesSet}
-use Rattle.channel.specs.Sound.{SoundChannel}
+use Rattle.soundness.specs.Channel.{SoundChannel}
 
 -- The steps of a channel
 

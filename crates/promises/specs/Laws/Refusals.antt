@@ -24,19 +24,19 @@ use Rattle.channel.specs.Answer.{answerNumber}
 use Rattle.channel.specs.Channel.{answered}
 use Rattle.channel.specs.Control.{controlWritten}
 use Rattle.channel.specs.Events.{dataRead, transmitTick}
 use Rattle.chip.specs.declared.Chip.{Chip}
 use Rattle.chip.specs.declared.Outcome.{Outcome}
 use Rattle.chip.specs.Interrupts.{chip, pendingOf, serviceOf, inService, rr2, acknowledge}
 use Rattle.chip.specs.Chip.{inA, inB, byChannel, inChannel, endsService, serviceBy}
 use Rattle.chip.specs.Chip.{controlWriteA, controlWrite, controlReadCall, dataWriteIn}
 use Rattle.chip.specs.Chip.{dataWriteCall, dataReadCall, transmitCall}
 use Rattle.chip.specs.Chip.{receiveIn, receiveCall, linesIn, linesCall}
 use Rattle.chip.specs.Event.{Event, HardReset, ControlWrite, ControlRead, DataWrite, DataRead}
 use Rattle.chip.specs.Event.{Transmit, Receive, SetLines, Acknowledge, Reti}
 use Rattle.chip.specs.Event.{ackedAnswer, step}
-use Rattle.chip.specs.Refusals.{Row, channelAbove, bitAbove, linesAbove, settingNotBuilt}
-use Rattle.chip.specs.Refusals.{noneWaits}
-use Rattle.chip.specs.Refusals.{rowsOf, firstRow}
+use Rattle.promises.specs.Refusals.{Row, channelAbove, bitAbove, linesAbove, settingNotBuilt}
+use Rattle.promises.specs.Refusals.{noneWaits}
+use Rattle.promises.specs.Refusals.{rowsOf, firstRow}
 
 abbrev numberIn : Outcome → ℕ
 numberIn r = answerNumber (r .answer)

@@ -13,14 +13,14 @@ use Rattle.channel.specs.declared.Answered.{Answered}
 use Rattle.channel.specs.Channel.{withService, liveOf}
 use Rattle.channel.specs.Control.{rr0, rr1Now}
 use Rattle.channel.specs.Events.{dataRead, transmitTick}
 use Rattle.chip.specs.declared.Chip.{Chip}
 use Rattle.chip.specs.Interrupts.{acknowledge, reti}
 use Rattle.chip.specs.Chip.{inA, inB, controlWriteA, controlWrite, controlReadCall}
 use Rattle.chip.specs.Chip.{dataWriteCall, dataReadCall, transmitCall, receiveCall, linesCall}
 use Rattle.chip.specs.Event.{Event, Acknowledge, Reti, step}
-use Rattle.chip.specs.Isolation.{On, control-write, control-read, data-write, data-read}
-use Rattle.chip.specs.Isolation.{transmit, receive, set-lines, nextRead, Same, SameChip}
-use Rattle.chip.specs.Isolation.{ButService, ServiceAlone}
+use Rattle.promises.specs.Isolation.{On, control-write, control-read, data-write, data-read}
+use Rattle.promises.specs.Isolation.{transmit, receive, set-lines, nextRead, Same, SameChip}
+use Rattle.promises.specs.Isolation.{ButService, ServiceAlone}
 
 -- The sources in service show in none of the four
 

@@ -1,6 +1,4 @@
 -- The laws of the chip's events, a file for each idea.
-pub mod Sound
 pub mod Isolation
 pub mod Refusals
 pub mod Priority
-pub mod Contracts

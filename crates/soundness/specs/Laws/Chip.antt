@@ -7,20 +7,20 @@ use Rattle.channel.specs.declared.Side.the-variants.{A, B}
 use Rattle.channel.specs.declared.Channel.{Channel}
 use Rattle.channel.specs.declared.Answered.{Answered}
 use Rattle.channel.specs.Events.{dataRead, transmitTick}
-use Rattle.channel.specs.Sound.{SoundChannel}
-use Rattle.channel.specs.Laws.Sound.{reset-sound, control-write-sound, control-read-sound}
-use Rattle.channel.specs.Laws.Sound.{data-write-sound, data-read-sound, transmit-sound}
-use Rattle.channel.specs.Laws.Sound.{receive-sound, lines-sound}
+use Rattle.soundness.specs.Channel.{SoundChannel}
+use Rattle.soundness.specs.Laws.Channel.{reset-sound, control-write-sound, control-read-sound}
+use Rattle.soundness.specs.Laws.Channel.{data-write-sound, data-read-sound, transmit-sound}
+use Rattle.soundness.specs.Laws.Channel.{receive-sound, lines-sound}
 use Rattle.chip.specs.declared.Chip.{Chip}
 use Rattle.chip.specs.declared.Outcome.{Outcome}
 use Rattle.chip.specs.Interrupts.{inService, anyPending, rr2, acknowledge, reti}
 use Rattle.chip.specs.Chip.{hardReset, byChannel, inChannel, onLevel, serviceBy}
 use Rattle.chip.specs.Chip.{controlWriteA, controlWrite, controlReadCall, dataWriteIn}
 use Rattle.chip.specs.Chip.{dataWriteCall, dataReadCall, transmitCall}
 use Rattle.chip.specs.Chip.{receiveIn, receiveCall, linesIn, linesCall}
 use Rattle.chip.specs.Event.{Event, HardReset, ControlWrite, ControlRead, DataWrite, DataRead}
 use Rattle.chip.specs.Event.{Transmit, Receive, SetLines, Acknowledge, Reti, step}
-use Rattle.chip.specs.Sound.{SoundChip}
+use Rattle.soundness.specs.Chip.{SoundChip}
 
 pub hard-reset-sound : SoundChip hardReset
 hard-reset-sound = (

@@ -8,11 +8,11 @@ use Rattle.interrupts.specs.Interrupts.{mayTake}
 use Rattle.interrupts.specs.Priority.{SourceAbove}
 use Rattle.interrupts.specs.Laws.Priority.{taken-above, above-taken}
 use Rattle.channel.specs.Answer.{answerNumber}
 use Rattle.chip.specs.declared.Chip.{Chip}
 use Rattle.chip.specs.Interrupts.{pendingOf, serviceOf}
 use Rattle.chip.specs.Event.{Acknowledge, step}
-use Rattle.chip.specs.Refusals.{nothingAbove, firstRow}
-use Rattle.chip.specs.Laws.Refusals.{refused-by-the-table}
+use Rattle.promises.specs.Refusals.{nothingAbove, firstRow}
+use Rattle.promises.specs.Laws.Refusals.{refused-by-the-table}
 
 -- 4: "acknowledge with no pending source above all those in service"
 

@@ -1,0 +1,4 @@
+pub mod Isolation
+pub mod Refusals
+pub mod Contracts
+pub mod Laws
