@@ -6,15 +6,29 @@ use Prim.Native.Nat.{ℕ, _+_, _-_, _/_}
 use lib.Dec.{eqb, ltb}
 use Rattle.common.specs.Choice.{if_then_else_}
 use Rattle.line.specs.Bits.{odd}
+use Rattle.line.specs.Check.{top, shifted}
 use Rattle.shared.specs.declared.Shared.{Shared}
 use Rattle.bytesync.specs.declared.BlockUnit.{BlockUnit}
 use Rattle.bytesync.specs.declared.BlockUnit.the-variants.{Mark, Sync, Byte, Check}
 use Rattle.bytesync.specs.declared.Reception.{Reception}
 use Rattle.bytesync.specs.declared.Synced.{Synced}
-use Rattle.bytesync.specs.Sending.{sentBit}
+use Rattle.bytesync.specs.Sending.{sentBit, startMark}
 use Rattle.bytesync.specs.Hearing.{reception, shiftIn, lastBit}
 
 -- Sending
+
+-- the bits of a unit that are still to be sent, and the tick of a unit that has one
+abbrev pub unitLeft : BlockUnit → ℕ
+unitLeft Mark = 0
+unitLeft (Sync n v) = n
+unitLeft (Byte n v) = n
+unitLeft (Check n v) = n
+
+abbrev pub goingOn : BlockUnit → Shared → Synced
+goingOn Mark k = startMark k
+goingOn (Sync n v) k = sentBit (odd v) (Sync (n - 1) (v / 2)) k
+goingOn (Byte n v) k = sentBit (odd v) (Byte (n - 1) (v / 2)) k
+goingOn (Check n v) k = sentBit (top v) (Check (n - 1) (shifted v)) k
 
 -- the bits of a byte that are still to be sent, and what is left of it to shift out; 0 in another
 -- unit

@@ -37,7 +37,7 @@ impl BlockUnit {
 }
 
 // One less, if there is one.
-fn less_one(n: u8) -> u8
+pub(crate) fn less_one(n: u8) -> u8
     ensures { λ r. ⌜ r ≡ n - 1 ⌝ }
 {
     if n == 0 {

@@ -213,6 +213,10 @@ impl Receiver {
         ensures { λ r. ⌜ r ≡ hear g self bit ⌝ }
     {
         let mode = g.mode;
+        // one call for both modes, so that it is no call in the end
+        if in_blocks(mode) {
+            return self.hear_block(g, bit);
+        }
         match mode {
             Mode::NoMode => self.silent(),
             Mode::Asynchronous => {
@@ -221,8 +225,8 @@ impl Receiver {
                 }
                 self.dropped(false, false).silent()
             }
-            Mode::Monosync => self.hear_block(g, bit),
-            Mode::Bisync => self.hear_block(g, bit),
+            Mode::Monosync => self.silent(),
+            Mode::Bisync => self.silent(),
             Mode::Sdlc => {
                 if g.on {
                     return self.by_listener(listening::hear(self.listener(), g.addressing, bit));

@@ -1,18 +1,36 @@
 -- A tick for which a test of Within holds is the form of Within. Assumes nothing.
 use mathlib.Core.Path.{_≡_, refl}
+use mathlib.Core.Logic.{_≢_}
 use mathlib.Core.Bool.{Bool, true, false, not, _&&_}
 use Prim.Native.Nat.{ℕ}
 use lib.Dec.{eqb, ltb}
-use Rattle.common.specs.Tools.{void, both-left, both-right, not-true}
+use Rattle.common.specs.Tools.{tests, void, both-left, both-right, not-true}
 use Rattle.shared.specs.declared.Shared.{Shared}
 use Rattle.bytesync.specs.declared.BlockUnit.{BlockUnit}
 use Rattle.bytesync.specs.declared.BlockUnit.the-variants.{Mark, Sync, Byte, Check}
 use Rattle.bytesync.specs.declared.Syncing.{Syncing}
 use Rattle.bytesync.specs.declared.Matching.{Matching}
 use Rattle.bytesync.specs.declared.Reception.{Reception}
-use Rattle.bytesync.specs.Sending.{tickBlock}
+use Rattle.bytesync.specs.Sending.{next, tickBlock}
 use Rattle.bytesync.specs.Hearing.{unmatched, lastBit, assembling, hearBlock}
-use Rattle.bytesync.specs.Within.{within, tickWithin, hearsOn, movedOn}
+use Rattle.bytesync.specs.Within.{unitLeft, goingOn, within, tickWithin, hearsOn, movedOn}
+
+-- a unit that has ended, and one that has a bit left
+pub ended : (g : Syncing) (u : BlockUnit) (k : Shared) → unitLeft u ≡ 0
+    → tickBlock g u k ≡ next g u k
+unfolding tickBlock
+ended g Mark k e = refl
+ended g (Sync n v) k e = simp (tests, e)
+ended g (Byte n v) k e = simp (tests, e)
+ended g (Check n v) k e = simp (tests, e)
+
+pub under-way : (g : Syncing) (u : BlockUnit) (k : Shared) → unitLeft u ≢ 0
+    → tickBlock g u k ≡ goingOn u k
+unfolding tickBlock
+under-way g Mark k e = absurd (e refl)
+under-way g (Sync n v) k e = simp (tests, e)
+under-way g (Byte n v) k e = simp (tests, e)
+under-way g (Check n v) k e = simp (tests, e)
 
 -- while a byte has bits left; it loads nothing and leaves the latch
 pub block-within : (g : Syncing) (u : BlockUnit) (k : Shared) → within u ≡ true

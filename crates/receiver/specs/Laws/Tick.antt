@@ -41,10 +41,10 @@ unfolding hear
 hear-bisync g s b m = ap (λ (k : Mode). hearIn k g s b) m
 
 -- the mode is one of the two
-pub hear-blocks : (g : Receiving) (s : Receiver) (b : Bool) → inBlocks (g .mode) ≡ true
-    → g .on ≡ true → hear g s b ≡ byMatched s (hearBlock (g .matching) (s .reception) (s .check) b)
+pub blocks-heard : (g : Receiving) (s : Receiver) (b : Bool) → inBlocks (g .mode) ≡ true
+    → hear g s b ≡ hearInBlocks g s b
 unfolding hear
-hear-blocks g s b m o = blocks-in (g .mode) m ∙ rw o
+blocks-heard g s b m = blocks-in (g .mode) m
   where
     blocks-in : (k : Mode) → inBlocks k ≡ true → hearIn k g s b ≡ hearInBlocks g s b
     blocks-in NoMode e = void e
@@ -52,3 +52,7 @@ hear-blocks g s b m o = blocks-in (g .mode) m ∙ rw o
     blocks-in Monosync e = refl
     blocks-in Bisync e = refl
     blocks-in Sdlc e = void e
+
+pub hear-blocks : (g : Receiving) (s : Receiver) (b : Bool) → inBlocks (g .mode) ≡ true
+    → g .on ≡ true → hear g s b ≡ byMatched s (hearBlock (g .matching) (s .reception) (s .check) b)
+hear-blocks g s b m o = blocks-heard g s b m ∙ rw o
