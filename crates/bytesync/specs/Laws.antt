@@ -1,4 +1,5 @@
--- Laws of the byte-synchronous modes: what a history keeps, and that what they hand over is plain.
--- Assumes nothing.
+-- Laws of the byte-synchronous modes: what a history keeps, that what they hand over is
+-- plain, and that most ticks have a form of their own. Assumes nothing.
 pub mod Sound
 pub mod Plain
+pub mod Within

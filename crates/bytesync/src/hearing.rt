@@ -11,7 +11,7 @@ ghost use Rattle.bytesync.specs.Hearing.{reception, matched, unmatched, 
 ghost use Rattle.bytesync.specs.Hearing.{expected, leads, entering, arrived, assembling, hearBlock};
 
 // A bit enters from above.
-fn shift_in(b: bool, s: u16) -> u16
+pub(crate) fn shift_in(b: bool, s: u16) -> u16
     ensures { λ r. ⌜ r ≡ shiftIn b s ⌝ }
 {
     if b {

@@ -1,8 +1,13 @@
 // The byte-synchronous modes, Monosync and Bisync: eight bits, no parity, no zeros inserted. Settings come decoded; it knows no other mode.
 // Assumes nothing.
 mod hearing;
+mod inside;
 mod sending;
 
+pub use crate::inside::hear_within;
+pub use crate::inside::hears_within;
+pub use crate::inside::tick_within;
+pub use crate::inside::within;
 use entry::Entry;
 use line::SDLC;
 use shared::Shared;
@@ -63,8 +68,8 @@ pub struct Block {
 // hunt: no sync has come yet; the last bits that came, since hunt began or since the last character, the newest highest; count of them, in
 // hunt at most sixteen.
 pub struct Reception {
-    pub hunt: bool,
     pub bits: u16,
+    pub hunt: bool,
     pub count: u8,
     pub block: Block,
 }

@@ -3,11 +3,13 @@ use crate::BlockUnit;
 use crate::Synced;
 use crate::Syncing;
 use crate::Syncs;
+use crate::inside::less_one;
 use shared::Shared;
 ghost use mathlib.Core.Path.{_≡_};
 ghost use Rattle.bytesync.specs.Syncs.{pair};
 ghost use Rattle.bytesync.specs.Sending.{synced, sentBit, startMark, syncSent, syncLeft, startSync, startByte, startCheck};
 ghost use Rattle.bytesync.specs.Sending.{byteOrSync, underrun, following, next, tickBlock};
+ghost use Rattle.bytesync.specs.Within.{unitLeft, goingOn};
 
 impl Syncs {
     // The two sync characters as one number, the first bit lowest.
@@ -137,30 +139,43 @@ impl Syncing {
     pub fn tick(self, u: BlockUnit, k: Shared) -> Synced
         ensures { λ r. ⌜ r ≡ tickBlock self u k ⌝ }
     {
-        match u {
-            BlockUnit::Mark => self.next(u, k),
+        if u.left() == 0 {
+            return self.next(u, k);
+        }
+        u.going_on(k)
+    }
+}
+
+impl BlockUnit {
+    // The bits that are still to be sent.
+    fn left(self) -> u8
+        ensures { λ r. ⌜ r ≡ unitLeft self ⌝ }
+    {
+        match self {
+            BlockUnit::Mark => 0,
+            BlockUnit::Sync(n, v) => n,
+            BlockUnit::Byte(n, v) => n,
+            BlockUnit::Check(n, v) => n,
+        }
+    }
+
+    // The next bit of a unit that has one left.
+    fn going_on(self, k: Shared) -> Synced
+        ensures { λ r. ⌜ r ≡ goingOn self k ⌝ }
+    {
+        match self {
+            BlockUnit::Mark => Synced::mark(k),
             BlockUnit::Sync(n, v) => {
-                if n == 0 {
-                    return self.next(u, k);
-                }
-                Synced::sent(v % 2 == 1, BlockUnit::Sync(n - 1, v / 2), k)
+                Synced::sent(v % 2 == 1, BlockUnit::Sync(less_one(n), v / 2), k)
             }
             BlockUnit::Byte(n, v) => {
-                if n == 0 {
-                    return self.next(u, k);
-                }
-                Synced::sent(v % 2 == 1, BlockUnit::Byte(n - 1, v / 2), k)
+                Synced::sent(v % 2 == 1, BlockUnit::Byte(less_one(n), v / 2), k)
             }
-            BlockUnit::Check(n, v) => {
-                if n == 0 {
-                    return self.next(u, k);
-                }
-                Synced::sent(
-                    v / 32768 % 2 == 1,
-                    BlockUnit::Check(n - 1, v % 32768 * 2),
-                    k,
-                )
-            }
+            BlockUnit::Check(n, v) => Synced::sent(
+                v / 32768 % 2 == 1,
+                BlockUnit::Check(less_one(n), v % 32768 * 2),
+                k,
+            ),
         }
     }
 }

@@ -87,6 +87,10 @@ impl Channel {
     {
         let h = self.receiver
             .hear(self.registers.receiving(self.lines), bit);
+        // hunt and D7 alone can move the status
+        if h.receiver.shows_as(self.receiver) {
+            return self.heard_by(h);
+        }
         self.heard_by(h).settled(self)
     }
 

@@ -4,10 +4,12 @@ use crate::Answer;
 use crate::Answered;
 use crate::Channel;
 use crate::events::cell;
+use common::in_blocks;
 use common::in_sdlc;
 use settings::breaks;
 ghost use mathlib.Core.Path.{_≡_};
-ghost use Rattle.channel.specs.Within.{withinByte, tickedWithin, hearsWithin, heardWithin};
+ghost use Rattle.channel.specs.Within.{withinByte, tickedWithin, withinBlock, tickedBlock};
+ghost use Rattle.channel.specs.Within.{hearsWithin, heardWithin, hearsBlock, heardBlock};
 
 impl Channel {
     // A transmit tick in SDLC, with no break and inside a byte.
@@ -33,6 +35,34 @@ impl Channel {
         }
     }
 
+    // A transmit tick in Monosync or Bisync, with no break and inside a byte.
+    pub fn within_block(self) -> bool
+        ensures { λ r. ⌜ r ≡ withinBlock self ⌝ }
+    {
+        let s = self.sender;
+        let u = s.block;
+        if bytesync::within(u) {
+            return !breaks(self.registers.wr5) & in_blocks(self.registers.mode());
+        }
+        false
+    }
+
+    // The tick, if so.
+    pub fn tick_block(self) -> Answered
+        ensures { λ r. ⌜ r ≡ tickedBlock self ⌝ }
+    {
+        let s = self.sender;
+        let u = s.block;
+        let t = bytesync::tick_within(u, s.shared);
+        let n = t.unit;
+        let mut c = self;
+        c.sender = s.with_block(n, t.shared);
+        Answered {
+            answer: Answer::Gave(cell(t.bit)),
+            channel: c,
+        }
+    }
+
     // A receive tick in SDLC, on, and inside a character.
     pub fn hears_within(self, bit: bool) -> bool
         ensures { λ r. ⌜ r ≡ hearsWithin self bit ⌝ }
@@ -49,6 +79,25 @@ impl Channel {
         let mut c = self;
         c.receiver = self.receiver
             .with_listener(listening::hear_within(self.receiver.listener(), bit));
+        c
+    }
+
+    // A receive tick in Monosync or Bisync, on, outside hunt and inside a character.
+    pub fn hears_block(self) -> bool
+        ensures { λ r. ⌜ r ≡ hearsBlock self ⌝ }
+    {
+        let g = self.registers.receiving(self.lines);
+        let m = g.mode;
+        in_blocks(m) & (g.on & bytesync::hears_within(self.receiver.reception))
+    }
+
+    // The tick, if so.
+    pub fn hear_block(self, bit: bool) -> Channel
+        ensures { λ r. ⌜ r ≡ heardBlock self bit ⌝ }
+    {
+        let mut c = self;
+        c.receiver = self.receiver
+            .with_reception(bytesync::hear_within(self.receiver.reception, bit));
         c
     }
 }

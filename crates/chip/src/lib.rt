@@ -12,7 +12,7 @@ use vector::Acked;
 ghost use mathlib.Core.Path.{_≡_};
 ghost use Rattle.channel.specs.declared.Answer.the-variants.{Done};
 ghost use Rattle.channel.specs.Channel.{answered};
-ghost use Rattle.channel.specs.Events.{transmitTick};
+ghost use Rattle.channel.specs.Events.{transmitTick, receiveTick};
 ghost use Rattle.chip.specs.Interrupts.{inService};
 ghost use Rattle.chip.specs.Chip.{refused, inA, inB, hardReset, serviceBy, controlWrite, controlReadCall, dataWriteIn, dataWriteCall};
 ghost use Rattle.chip.specs.Chip.{dataReadCall, transmitCall, receiveIn, receiveCall, linesIn, linesCall};
@@ -203,6 +203,9 @@ impl Chip {
         if self.a.within() {
             return self.in_a(self.a.tick_within());
         }
+        if self.a.within_block() {
+            return self.in_a(self.a.tick_block());
+        }
         self.whole_a()
     }
 
@@ -211,6 +214,9 @@ impl Chip {
     {
         if self.b.within() {
             return self.in_b(self.b.tick_within());
+        }
+        if self.b.within_block() {
+            return self.in_b(self.b.tick_block());
         }
         self.whole_b()
     }
@@ -228,6 +234,21 @@ impl Chip {
         self.refused(Refusal::Channel)
     }
 
+    // A's receive tick whatever its bit does, and B's: apart, as with sending.
+    fn heard_a(self, bit: bool) -> Outcome
+        ensures { λ r. ⌜ r ≡ inA self (answered Done (receiveTick (self .a) bit)) ⌝ }
+    {
+        let a = self.a;
+        self.in_a(done(a.receive_tick(bit)))
+    }
+
+    fn heard_b(self, bit: bool) -> Outcome
+        ensures { λ r. ⌜ r ≡ inB self (answered Done (receiveTick (self .b) bit)) ⌝ }
+    {
+        let b = self.b;
+        self.in_b(done(b.receive_tick(bit)))
+    }
+
     // A's receive tick, and B's; most lie inside a character.
     fn receive_a(self, bit: u8) -> Outcome
         ensures { λ r. ⌜ r ≡ inA self (receiveIn (self .a) bit) ⌝ }
@@ -238,7 +259,10 @@ impl Chip {
         if self.a.hears_within(bit == 1) {
             return self.in_a(done(self.a.hear_within(bit == 1)));
         }
-        self.in_a(done(self.a.receive_tick(bit == 1)))
+        if self.a.hears_block() {
+            return self.in_a(done(self.a.hear_block(bit == 1)));
+        }
+        self.heard_a(bit == 1)
     }
 
     fn receive_b(self, bit: u8) -> Outcome
@@ -250,7 +274,10 @@ impl Chip {
         if self.b.hears_within(bit == 1) {
             return self.in_b(done(self.b.hear_within(bit == 1)));
         }
-        self.in_b(done(self.b.receive_tick(bit == 1)))
+        if self.b.hears_block() {
+            return self.in_b(done(self.b.hear_block(bit == 1)));
+        }
+        self.heard_b(bit == 1)
     }
 
     // Receive tick.

@@ -1,7 +1,7 @@
 -- 01, Receiving: one channel's receiver: what all modes share, which mode hears, off, and what the
 -- other events do to it. Every receiver is accepted, also one that no history made. Assumes
 -- nothing.
-use mathlib.Core.Bool.{Bool, true, false, _&&_, _||_}
+use mathlib.Core.Bool.{Bool, true, false, _&&_, _||_, Bool·beq}
 use Prim.Native.Nat.{ℕ}
 use Rattle.common.specs.Choice.{if_then_else_}
 use Rattle.common.specs.Mode.{inSdlc, inBlocks}
@@ -37,6 +37,10 @@ listenerOf s = heardSo (s .content) (s .check) (s .broken)
 
 abbrev pub listenerIn : Receiver → Listener → Receiver
 listenerIn s l = receiver (l .content) (s .assembly) (s .reception) (l .check) (l .broken)
+
+-- what Monosync and Bisync have heard, put back
+abbrev pub receptionIn : Receiver → Reception → Receiver
+receptionIn s r = receiver (s .content) (s .assembly) r (s .check) (s .broken)
 
 -- what a tick gives: the receiver, and an entry for the queue or none
 abbrev pub heard : Receiver → Bool → Entry → Heard
@@ -89,6 +93,13 @@ presetCheck m s =
 abbrev pub hunting : Receiving → Receiver → Bool
 hunting g s =
     (inSdlc (g .mode) && s .content .hunt) || (inBlocks (g .mode) && s .reception .hunt)
+
+-- hunt in every mode and D7 are the same: RR0 shows no difference
+abbrev pub showsAs : Receiver → Receiver → Bool
+showsAs s was =
+    Bool·beq (s .broken) (was .broken)
+    && (Bool·beq (s .content .hunt) (was .content .hunt)
+    && Bool·beq (s .reception .hunt) (was .reception .hunt))
 
 -- A receive tick. "With no mode, ticks .. receive nothing"; "A tick while off clears D7, and it ..
 -- drops the unfinished part"

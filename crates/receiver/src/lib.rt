@@ -16,8 +16,8 @@ use sdlc::Listened;
 use sdlc::Listener;
 use shared::preset_for;
 ghost use mathlib.Core.Path.{_≡_};
-ghost use Rattle.receiver.specs.Receiver.{listenerOf, listenerIn, byListener, byAssembly, byMatched, hearInBlocks, silent};
-ghost use Rattle.receiver.specs.Receiver.{reset, dropped, enterHunt, modeChanged, presetCheck, hunting, hear};
+ghost use Rattle.receiver.specs.Receiver.{listenerOf, listenerIn, receptionIn, byListener, byAssembly, byMatched, hearInBlocks, silent};
+ghost use Rattle.receiver.specs.Receiver.{reset, dropped, enterHunt, modeChanged, presetCheck, hunting, showsAs, hear};
 
 // A channel's settings as a tick finds them. on: WR3 D0 and, with auto enables, DCD.
 pub struct Receiving {
@@ -80,6 +80,15 @@ impl Receiver {
         s.content = content;
         s.check = l.check;
         s.broken = l.broken;
+        s
+    }
+
+    // What Monosync and Bisync have heard, put back.
+    pub fn with_reception(self, reception: Reception) -> Receiver
+        ensures { λ r. ⌜ r ≡ receptionIn self reception ⌝ }
+    {
+        let mut s = self;
+        s.reception = reception;
         s
     }
 
@@ -168,6 +177,15 @@ impl Receiver {
         (in_sdlc(mode) & self.content.hunt) | (in_blocks(mode) & self.reception.hunt)
     }
 
+    // Hunt in every mode and D7 are as in that one: RR0 shows no difference.
+    pub fn shows_as(self, was: Receiver) -> bool
+        ensures { λ r. ⌜ r ≡ showsAs self was ⌝ }
+    {
+        (self.broken == was.broken)
+            & ((self.content.hunt == was.content.hunt)
+                & (self.reception.hunt == was.reception.hunt))
+    }
+
     // A tick that hands nothing over.
     fn silent(self) -> Heard
         ensures { λ r. ⌜ r ≡ silent self ⌝ }
@@ -195,6 +213,10 @@ impl Receiver {
         ensures { λ r. ⌜ r ≡ hear g self bit ⌝ }
     {
         let mode = g.mode;
+        // one call for both modes, so that it is no call in the end
+        if in_blocks(mode) {
+            return self.hear_block(g, bit);
+        }
         match mode {
             Mode::NoMode => self.silent(),
             Mode::Asynchronous => {
@@ -203,8 +225,8 @@ impl Receiver {
                 }
                 self.dropped(false, false).silent()
             }
-            Mode::Monosync => self.hear_block(g, bit),
-            Mode::Bisync => self.hear_block(g, bit),
+            Mode::Monosync => self.silent(),
+            Mode::Bisync => self.silent(),
             Mode::Sdlc => {
                 if g.on {
                     return self.by_listener(listening::hear(self.listener(), g.addressing, bit));

@@ -17,7 +17,8 @@ use sdlc::not_counted;
 use shared::Shared;
 use shared::preset_for;
 ghost use mathlib.Core.Path.{_≡_};
-ghost use Rattle.sender.specs.Sender.{framerOf, framerIn, byFramer, byTypist, bySyncing, withBreak, tick};
+ghost use mathlib.Core.Bool.{true, false};
+ghost use Rattle.sender.specs.Sender.{ticked, framerOf, framerIn, byFramer, byTypist, bySyncing, withBreak, tick};
 ghost use Rattle.sender.specs.Sender.{withShared, blockIn, tickInBlocks, written, aborted, checkPreset, latchCleared, idled, atReset, allSent, bufferReady};
 
 // SDLC's unit and zero insertion, the asynchronous character, the unit of Monosync and Bisync, and what all modes share.
@@ -131,7 +132,7 @@ impl Sender {
     }
 
     // Another unit of Monosync or Bisync, and what all modes share.
-    fn with_block(self, block: BlockUnit, shared: Shared) -> Sender
+    pub fn with_block(self, block: BlockUnit, shared: Shared) -> Sender
         ensures { λ r. ⌜ r ≡ blockIn self block shared ⌝ }
     {
         let unit = self.unit;
@@ -168,21 +169,32 @@ impl Sender {
         self.by_syncing(y.tick(u, k)).with_break(g.broken)
     }
 
+    // A tick with no mode.
+    fn unticked(self) -> Ticked
+        ensures { λ r. ⌜ r ≡ ticked true false self ⌝ }
+    {
+        Ticked {
+            bit: true,
+            loaded: false,
+            sender: self,
+        }
+    }
+
     // One transmit tick.
     pub fn tick(self, g: Sending) -> Ticked
         ensures { λ r. ⌜ r ≡ tick g self ⌝ }
     {
         let mode = g.mode;
+        // one call for both modes, so that it is no call in the end
+        if in_blocks(mode) {
+            return self.tick_block(g);
+        }
         match mode {
-            Mode::NoMode => Ticked {
-                bit: true,
-                loaded: false,
-                sender: self,
-            },
+            Mode::NoMode => self.unticked(),
             Mode::Asynchronous => self.by_typist(g.typing.tick(self.character, self.shared))
                 .with_break(g.broken),
-            Mode::Monosync => self.tick_block(g),
-            Mode::Bisync => self.tick_block(g),
+            Mode::Monosync => self.unticked(),
+            Mode::Bisync => self.unticked(),
             Mode::Sdlc => self.by_framer(framing::tick(self.framer(), g.framing))
                 .with_break(g.broken),
         }

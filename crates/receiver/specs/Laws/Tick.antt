@@ -1,16 +1,18 @@
 -- A tick in SDLC, in Monosync and in Bisync, and that what it hands over is plain. Assumes nothing.
-use mathlib.Core.Path.{_≡_, ap, _∙_}
+use mathlib.Core.Path.{_≡_, refl, ap, _∙_}
 use mathlib.Core.Bool.{Bool, true, false}
-use Rattle.common.specs.Tools.{if-elim}
+use Rattle.common.specs.Mode.{inBlocks}
+use Rattle.common.specs.Tools.{if-elim, void}
 use Rattle.common.specs.declared.Mode.{Mode}
-use Rattle.common.specs.declared.Mode.the-variants.{Monosync, Bisync, Sdlc}
+use Rattle.common.specs.declared.Mode.the-variants.{NoMode, Asynchronous, Monosync, Bisync, Sdlc}
 use Rattle.queue.specs.Holding.{Plain, plain}
+use Rattle.bytesync.specs.Hearing.{hearBlock}
 use Rattle.sdlc.specs.Hearing.{hearSdlc}
 use Rattle.sdlc.specs.Laws.Plain as listening
 use Rattle.receiver.specs.declared.Receiving.{Receiving}
 use Rattle.receiver.specs.declared.Receiver.{Receiver}
 use Rattle.receiver.specs.declared.Heard.{Heard}
-use Rattle.receiver.specs.Receiver.{listenerOf, byListener, hearInBlocks}
+use Rattle.receiver.specs.Receiver.{listenerOf, byListener, byMatched, hearInBlocks}
 use Rattle.receiver.specs.Receiver.{hearIn, hear}
 
 pub hear-sdlc : (g : Receiving) (s : Receiver) (b : Bool) → g .mode ≡ Sdlc → g .on ≡ true
@@ -37,3 +39,20 @@ pub hear-bisync : (g : Receiving) (s : Receiver) (b : Bool) → g .mode ≡ Bisy
     → hear g s b ≡ hearInBlocks g s b
 unfolding hear
 hear-bisync g s b m = ap (λ (k : Mode). hearIn k g s b) m
+
+-- the mode is one of the two
+pub blocks-heard : (g : Receiving) (s : Receiver) (b : Bool) → inBlocks (g .mode) ≡ true
+    → hear g s b ≡ hearInBlocks g s b
+unfolding hear
+blocks-heard g s b m = blocks-in (g .mode) m
+  where
+    blocks-in : (k : Mode) → inBlocks k ≡ true → hearIn k g s b ≡ hearInBlocks g s b
+    blocks-in NoMode e = void e
+    blocks-in Asynchronous e = void e
+    blocks-in Monosync e = refl
+    blocks-in Bisync e = refl
+    blocks-in Sdlc e = void e
+
+pub hear-blocks : (g : Receiving) (s : Receiver) (b : Bool) → inBlocks (g .mode) ≡ true
+    → g .on ≡ true → hear g s b ≡ byMatched s (hearBlock (g .matching) (s .reception) (s .check) b)
+hear-blocks g s b m o = blocks-heard g s b m ∙ rw o

@@ -1,15 +1,17 @@
 -- A tick in each mode, and Send Abort: the modes' own laws speak of what happens within. Assumes
 -- nothing.
-use mathlib.Core.Path.{_≡_}
+use mathlib.Core.Path.{_≡_, refl}
 use mathlib.Core.Bool.{Bool, true, false}
-use Rattle.common.specs.Mode.{inSdlc}
+use Rattle.common.specs.Mode.{inSdlc, inBlocks}
+use Rattle.common.specs.Tools.{void}
+use Rattle.common.specs.declared.Mode.{Mode}
 use Rattle.common.specs.declared.Mode.the-variants.{NoMode, Asynchronous, Monosync, Bisync, Sdlc}
 use Rattle.asynchronous.specs.Sending.{tickCharacter}
 use Rattle.sdlc.specs.Sending.{tickSdlc, abortedBy}
 use Rattle.sender.specs.declared.Sender.{Sender}
 use Rattle.sender.specs.declared.Sending.{Sending}
 use Rattle.sender.specs.Sender.{ticked, framerOf, framerIn, byFramer, byTypist, withBreak}
-use Rattle.sender.specs.Sender.{tickInBlocks, tick}
+use Rattle.sender.specs.Sender.{tickInBlocks, tickIn, tick}
 use Rattle.sender.specs.Sender.{aborted}
 
 module _ (g : Sending) (s : Sender) where
@@ -31,6 +33,18 @@ module _ (g : Sending) (s : Sender) where
   pub tick-bisync : g .mode ≡ Bisync → tick g s ≡ tickInBlocks g s
   unfolding tick
   tick-bisync m = rw m
+
+  -- the mode is one of the two
+  blocks-in : (m : Mode) → inBlocks m ≡ true → tickIn m g s ≡ tickInBlocks g s
+  blocks-in NoMode e = void e
+  blocks-in Asynchronous e = void e
+  blocks-in Monosync e = refl
+  blocks-in Bisync e = refl
+  blocks-in Sdlc e = void e
+
+  pub tick-blocks : inBlocks (g .mode) ≡ true → tick g s ≡ tickInBlocks g s
+  unfolding tick
+  tick-blocks e = blocks-in (g .mode) e
 
   pub tick-no-mode : g .mode ≡ NoMode → tick g s ≡ ticked true false s
   unfolding tick

@@ -2,7 +2,7 @@
 -- nothing.
 use mathlib.Core.Path.{sym, _∙_}
 use lib.Dec.{eqb}
-use Rattle.channel.specs.Laws.Within.{receive-within}
+use Rattle.channel.specs.Laws.Within.{receive-within, block-hear}
 use Rattle.chip.proofs.Branch.{tests}
 use borrow.Author.Needs.{needs}
 use Rattle.chip.proofs.Chip.receive_b.Statement.{statement}
@@ -32,8 +32,11 @@ returns-2 c =
     let e = receive-within (a .self .b) (eqb (a .bit) 1) (sym (c .before .before .before .before .hears-within .ensures) ∙ c .before .before .before .if2 .taken) in
     simp (tests, c .in-b .ensures, c .before .done .ensures, c .before .before .hear-within .ensures, c .before .before .before .before .before .if1 .left, e)
 
-receive-tick-requires : tie.Need-receive-tick-requires
-receive-tick-requires c κs = search needs
+hears-block-requires : tie.Need-hears-block-requires
+hears-block-requires c κs = search needs
+
+hear-block-requires : tie.Need-hear-block-requires
+hear-block-requires c κs = search needs
 
 done-requires-2 : tie.Need-done-requires-2
 done-requires-2 c κs = search needs
@@ -43,10 +46,18 @@ in-b-requires-2 c κs = search needs
 
 returns-3 : tie.Need-returns-3
 returns-3 c =
-    simp (tests, c .in-b2 .ensures, c .before .done2 .ensures, c .before .before .before .before .before .if1 .left, ← c .before .before .receive-tick .ensures)
+    let a = c .before .before .before .before .before .before .before .before .args in
+    let e = block-hear (a .self .b) (eqb (a .bit) 1) (sym (c .before .before .before .before .hears-block .ensures) ∙ c .before .before .before .if3 .taken) in
+    simp (tests, c .in-b2 .ensures, c .before .done2 .ensures, c .before .before .hear-block .ensures, c .before .before .before .before .before .before .before .if1 .left, e)
+
+heard-b-requires : tie.Need-heard-b-requires
+heard-b-requires c κs = search needs
+
+returns-4 : tie.Need-returns-4
+returns-4 c = simp (tests, c .before .before .before .before .before .if1 .left) (c .heard-b .ensures)
 
 pub receive-b-spec : {M : Type 1} → statement M
 receive-b-spec =
     tie.close
-    (tie.spec refused-requires returns hears-within-requires hear-within-requires done-requires in-b-requires returns-2 receive-tick-requires done-requires-2
-    in-b-requires-2 returns-3)
+    (tie.spec refused-requires returns hears-within-requires hear-within-requires done-requires in-b-requires returns-2 hears-block-requires
+    hear-block-requires done-requires-2 in-b-requires-2 returns-3 heard-b-requires returns-4)

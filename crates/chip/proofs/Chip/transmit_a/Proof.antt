@@ -1,6 +1,6 @@
 -- `chip::Chip::transmit_a` meets its contract: inside a byte the tick has a form of its own. Assumes nothing.
 use mathlib.Core.Path.{sym, _∙_}
-use Rattle.channel.specs.Laws.Within.{within-tick}
+use Rattle.channel.specs.Laws.Within.{within-tick, block-tick}
 use borrow.Author.Needs.{needs}
 use Rattle.chip.proofs.Chip.transmit_a.Statement.{statement}
 use Rattle.chip.proofs.Chip.transmit_a.Tie as tie
@@ -20,13 +20,29 @@ returns c =
     let e = within-tick x (sym (c .before .before .before .within .ensures) ∙ c .before .before .if1 .taken) in
     simp (e, ← c .before .tick-within .ensures) (c .in-a .ensures)
 
+within-block-requires : tie.Need-within-block-requires
+within-block-requires c κs = search needs
+
+tick-block-requires : tie.Need-tick-block-requires
+tick-block-requires c κs = search needs
+
+in-a-requires-2 : tie.Need-in-a-requires-2
+in-a-requires-2 c κs = search needs
+
+returns-2 : tie.Need-returns-2
+returns-2 c =
+    let x = c .before .before .before .before .before .before .args .self .a in
+    let e = block-tick x (sym (c .before .before .before .within-block .ensures) ∙ c .before .before .if2 .taken) in
+    simp (e, ← c .before .tick-block .ensures) (c .in-a2 .ensures)
+
 whole-a-requires : tie.Need-whole-a-requires
 whole-a-requires c κs = search needs
 
-returns-2 : tie.Need-returns-2
-returns-2 c = search needs
+returns-3 : tie.Need-returns-3
+returns-3 c = search needs
 
 pub transmit-a-spec : {M : Type 1} → statement M
 transmit-a-spec =
     tie.close
-    (tie.spec within-requires tick-within-requires in-a-requires returns whole-a-requires returns-2)
+    (tie.spec within-requires tick-within-requires in-a-requires returns within-block-requires tick-block-requires in-a-requires-2 returns-2
+    whole-a-requires returns-3)

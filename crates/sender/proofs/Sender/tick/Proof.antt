@@ -1,12 +1,31 @@
 -- `sender::Sender::tick` meets its contract: each return by the facts on its way. Assumes nothing.
+use mathlib.Core.Path.{sym, ap, _∙_}
+use Rattle.common.specs.Mode.{inBlocks}
+use Rattle.common.specs.Tools.{void}
 use Rattle.sender.proofs.Branch.{tests}
 use Rattle.sender.specs.Sender.{tick}
+use Rattle.sender.specs.Laws.Tick.{tick-blocks}
 use borrow.Author.Needs.{needs}
 use Rattle.sender.proofs.Sender.tick.Statement.{statement}
 use Rattle.sender.proofs.Sender.tick.Tie as tie
 
+in-blocks-requires : tie.Need-in-blocks-requires
+in-blocks-requires c κs = search needs
+
+tick-block-requires : tie.Need-tick-block-requires
+tick-block-requires c κs = search needs
+
+returns : tie.Need-returns
+returns c =
+    let a = c .before .before .before .args in
+    c .tick-block .ensures
+    ∙ sym (tick-blocks (a .g) (a .self) (sym (c .before .before .in-blocks .ensures) ∙ c .before .if1 .taken))
+
 enum-told : tie.Need-enum-told
 enum-told c = search needs
+
+unticked-requires : tie.Need-unticked-requires
+unticked-requires c κs = search needs
 
 enum-told-2 : tie.Need-enum-told-2
 enum-told-2 c = search needs
@@ -23,14 +42,14 @@ with-break-requires c κs = search needs
 enum-told-3 : tie.Need-enum-told-3
 enum-told-3 c = search needs
 
-tick-block-requires : tie.Need-tick-block-requires
-tick-block-requires c κs = search needs
+unticked-requires-2 : tie.Need-unticked-requires-2
+unticked-requires-2 c κs = search needs
 
 enum-told-4 : tie.Need-enum-told-4
 enum-told-4 c = search needs
 
-tick-block-requires-2 : tie.Need-tick-block-requires-2
-tick-block-requires-2 c κs = search needs
+unticked-requires-3 : tie.Need-unticked-requires-3
+unticked-requires-3 c κs = search needs
 
 enum-told-5 : tie.Need-enum-told-5
 enum-told-5 c = search needs
@@ -47,46 +66,50 @@ by-framer-requires c κs = search needs
 with-break-requires-2 : tie.Need-with-break-requires-2
 with-break-requires-2 c κs = search needs
 
-returns : tie.Need-returns
-unfolding tick
-returns c = simp (tests, c .enum-told .given .1)
-
 returns-2 : tie.Need-returns-2
 unfolding tick
-returns-2 c = simp (tests, c .before .before .before .enum-told2 .given .1, ← c .before .by-typist .ensures, ← c .before .before .tick .ensures) (c .with-break .ensures)
+returns-2 c = simp (tests, c .before .enum-told .given .1) (c .unticked .ensures)
 
 returns-3 : tie.Need-returns-3
 unfolding tick
-returns-3 c = simp (tests, c .before .enum-told3 .given .1) (c .tick-block .ensures)
+returns-3 c = simp (tests, c .before .before .before .enum-told2 .given .1, ← c .before .by-typist .ensures, ← c .before .before .tick .ensures) (c .with-break .ensures)
 
 returns-4 : tie.Need-returns-4
-unfolding tick
-returns-4 c = simp (tests, c .before .enum-told4 .given .1) (c .tick-block2 .ensures)
+returns-4 c =
+    void (sym (c .before .before .before .if1 .left) ∙ c .before .before .before .before .in-blocks .ensures ∙ ap inBlocks (c .before .enum-told3 .given .1))
 
 returns-5 : tie.Need-returns-5
+returns-5 c =
+    void (sym (c .before .before .before .if1 .left) ∙ c .before .before .before .before .in-blocks .ensures ∙ ap inBlocks (c .before .enum-told4 .given .1))
+
+returns-6 : tie.Need-returns-6
 unfolding tick
-returns-5 c = simp (tests, c .before .before .before .before .enum-told5 .given .1, ← c .before .by-framer .ensures, ← c .before .before .tick2 .ensures, ← c .before .before .before .framer .ensures) (c .with-break2 .ensures)
+returns-6 c = simp (tests, c .before .before .before .before .enum-told5 .given .1, ← c .before .by-framer .ensures, ← c .before .before .tick2 .ensures, ← c .before .before .before .framer .ensures) (c .with-break2 .ensures)
 
 pub tick-spec : {M : Type 1} → statement M
 tick-spec =
     tie.close
     (tie.spec
+    in-blocks-requires
+    tick-block-requires
+    returns
     enum-told
+    unticked-requires
     enum-told-2
     tick-requires
     by-typist-requires
     with-break-requires
     enum-told-3
-    tick-block-requires
+    unticked-requires-2
     enum-told-4
-    tick-block-requires-2
+    unticked-requires-3
     enum-told-5
     framer-requires
     tick-requires-2
     by-framer-requires
     with-break-requires-2
-    returns
     returns-2
     returns-3
     returns-4
-    returns-5)
+    returns-5
+    returns-6)

@@ -1,0 +1,14 @@
+-- `bytesync::inside::within` meets its contract: each return by the facts on its way. Assumes nothing.
+use Rattle.bytesync.proofs.Branch.{tests}
+use borrow.Author.Needs.{needs}
+use Rattle.bytesync.proofs.inside.within.Statement.{statement}
+use Rattle.bytesync.proofs.inside.within.Tie as tie
+
+byte-left-requires : tie.Need-byte-left-requires
+byte-left-requires c κs = search needs
+
+returns : tie.Need-returns
+returns c = simp (tests, c .byte-left .ensures)
+
+pub within-spec : {M : Type 1} → statement M
+within-spec = tie.close (tie.spec byte-left-requires returns)

@@ -1,0 +1,23 @@
+-- `channel::Channel::hears_block` meets its contract: each return by the facts on its way. Assumes nothing.
+use Rattle.channel.proofs.Branch.{tests}
+use Rattle.channel.specs.Within.{hearsBlock}
+use borrow.Author.Needs.{needs}
+use Rattle.channel.proofs.Channel.hears_block.Statement.{statement}
+use Rattle.channel.proofs.Channel.hears_block.Tie as tie
+
+receiving-requires : tie.Need-receiving-requires
+receiving-requires c κs = search needs
+
+in-blocks-requires : tie.Need-in-blocks-requires
+in-blocks-requires c κs = search needs
+
+hears-within-requires : tie.Need-hears-within-requires
+hears-within-requires c κs = search needs
+
+returns : tie.Need-returns
+unfolding hearsBlock
+returns c = simp (tests, ← c .before .hears-within .ensures, ← c .before .before .in-blocks .ensures, ← c .before .before .before .receiving .ensures)
+
+pub hears-block-spec : {M : Type 1} → statement M
+hears-block-spec =
+    tie.close (tie.spec receiving-requires in-blocks-requires hears-within-requires returns)

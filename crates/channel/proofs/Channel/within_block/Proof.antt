@@ -1,0 +1,41 @@
+-- `channel::Channel::within_block` meets its contract: each return by the facts on its way. Assumes nothing.
+use mathlib.Core.Path.{_≡_, sym, ap, ap₂, _∙_}
+use mathlib.Core.Bool.{Bool, true, false, not, _&&_}
+use Rattle.common.specs.Mode.{inBlocks}
+use Rattle.bytesync.specs.Within.{within}
+use Rattle.channel.specs.Laws.Within.{inside-block, outside-block}
+use borrow.Author.Needs.{needs}
+use Rattle.channel.proofs.Channel.within_block.Statement.{statement}
+use Rattle.channel.proofs.Channel.within_block.Tie as tie
+
+within-requires : tie.Need-within-requires
+within-requires c κs = search needs
+
+breaks-requires : tie.Need-breaks-requires
+breaks-requires c κs = search needs
+
+mode-requires : tie.Need-mode-requires
+mode-requires c κs = search needs
+
+in-blocks-requires : tie.Need-in-blocks-requires
+in-blocks-requires c κs = search needs
+
+returns : tie.Need-returns
+returns c =
+    let b = c .before .before .before in
+    let s = b .before .before .before .args .self in
+    let e : within (s .sender .block) ≡ true = sym (b .before .within .ensures) ∙ b .if1 .taken in
+    ap₂ (λ (x y : Bool). not x && y) (c .before .before .breaks .ensures)
+    (c .in-blocks .ensures ∙ ap inBlocks (c .before .mode .ensures))
+    ∙ inside-block s e
+
+returns-2 : tie.Need-returns-2
+returns-2 c =
+    let s = c .before .before .before .args .self in
+    let e : within (s .sender .block) ≡ false = sym (c .before .within .ensures) ∙ c .if1 .left in
+    outside-block s e
+
+pub within-block-spec : {M : Type 1} → statement M
+within-block-spec =
+    tie.close
+    (tie.spec within-requires breaks-requires mode-requires in-blocks-requires returns returns-2)

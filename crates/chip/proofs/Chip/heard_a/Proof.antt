@@ -1,0 +1,19 @@
+-- `chip::Chip::heard_a` meets its contract: the channel's tick, put back. Assumes nothing.
+use borrow.Author.Needs.{needs}
+use Rattle.chip.proofs.Chip.heard_a.Statement.{statement}
+use Rattle.chip.proofs.Chip.heard_a.Tie as tie
+
+receive-tick-requires : tie.Need-receive-tick-requires
+receive-tick-requires c κs = search needs
+
+done-requires : tie.Need-done-requires
+done-requires c κs = search needs
+
+in-a-requires : tie.Need-in-a-requires
+in-a-requires c κs = search needs
+
+returns : tie.Need-returns
+returns c = simp (c .in-a .ensures, c .before .done .ensures, ← c .before .before .receive-tick .ensures)
+
+pub heard-a-spec : {M : Type 1} → statement M
+heard-a-spec = tie.close (tie.spec receive-tick-requires done-requires in-a-requires returns)
