@@ -9,7 +9,7 @@ use Rattle.line.specs.Bits.{odd, lowBits}
 use Rattle.line.specs.Check.{ones, complement, checkOver}
 use Rattle.queue.specs.Queue.{waits}
 use Rattle.bytesync.specs.Hearing.{block, noBlock, reception, receptionAt}
-use Rattle.settings.specs.Settings.{modeIn, polynomialIn, store7}
+use Rattle.settings.specs.Settings.{modeIn, polynomialIn, store6, store7}
 use Rattle.channel.specs.declared.Answer.the-variants.{Gave}
 use Rattle.channel.specs.Answer.{answerValue}
 use Rattle.channel.specs.Channel.{withRegisters}
@@ -18,7 +18,7 @@ use Rattle.tales.specs.Tale.{Happens}
 use Rattle.tales.specs.Kind.{valueOf, isTick, isBit, isRead, isWrite, isPreset}
 use Rattle.tales.specs.Parts.{withWr3, withWr5, withWr6, withLatch, withSentCheck, withHeardCheck}
 use Rattle.tales.specs.Parts.{withReception}
-use Rattle.tales.specs.Wrong.{butA, firstA, saying}
+use Rattle.tales.specs.Wrong.{butA, firstA, takingA, saying}
 use Rattle.laundry.specs.Unit.{byteEnded, syncBegun}
 
 abbrev pub happens : Happens

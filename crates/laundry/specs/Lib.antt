@@ -1,4 +1,5 @@
 pub mod Unit
 pub mod Happens
 pub mod Sending
+pub mod Bisync
 pub mod Receiving
