@@ -46,4 +46,4 @@ pub record Told : Type 0 where
 
 pub told : Told
 unfolding computing chipBehind given times digits
-told = record { sent = refl; found = refl; half = refl; turned = refl; in-turn = refl; }
+told = record { sent = refl; found = refl; half = refl; turned = refl; in-turn = refl }
