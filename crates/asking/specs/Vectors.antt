@@ -2,9 +2,8 @@
 use mathlib.Core.Path.{_≡_, refl}
 use mathlib.Core.List.{List, [], _∷_, _++_}
 use Prim.Native.Nat.{ℕ}
-use Rattle.chip.specs.Computing.{computing}
 use Rattle.chip.specs.Event.{Event, SetLines, Acknowledge}
-use Rattle.tales.specs.Tale.{chipBehind, times, digits, reads, vector}
+use Rattle.tales.specs.Tale.{Happens, telling, reads, vector}
 use Rattle.tales.specs.Words.{set, writes, takes, ticks, oneStop, sdlc, hearing}
 use Rattle.tales.specs.Words.{sending, sendEight, char41, frame00}
 use Rattle.asking.specs.Happens.{happens}
@@ -32,7 +31,7 @@ heardFrame = hearing 0 sdlc ++ set 0 1 0b11000 ++ frame00 0
 abbrev carrier : ℕ → ℕ → List Event
 carrier ch wr1 = set ch 1 wr1 ++ (SetLines ch 1 0 ∷ [])
 
-pub record Told : Type 0 where
+pub record Told (happens : Happens) : Type 0 where
   -- "Vector bits 3-1: B transmit 0, external 1, receive 2, special 3; A 4 to 7."
   pub b-transmit : reads happens (vectors ++ sent 1 0b110) 1 2 ≡ 0xF1
   pub b-external : reads happens (vectors ++ carrier 1 0b101) 1 2 ≡ 0xF3
@@ -64,8 +63,8 @@ pub record Told : Type 0 where
   pub no-d1-in-b : reads happens (carrier 1 0b1) 1 0 ≡ 0x4C
   pub d1-in-service : reads happens (carrier 0 0b1 ++ (Acknowledge ∷ [])) 0 0 ≡ 0x4E
 
-pub told : Told
-unfolding computing chipBehind times digits
+pub told : Told happens
+unfolding telling
 told = record {
   b-transmit = refl;
   b-external = refl;

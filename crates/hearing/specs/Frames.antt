@@ -3,9 +3,8 @@
 use mathlib.Core.Path.{_≡_, refl}
 use mathlib.Core.List.{List, [], _∷_, _++_}
 use Prim.Native.Nat.{ℕ}
-use Rattle.chip.specs.Computing.{computing}
 use Rattle.chip.specs.Event.{Event}
-use Rattle.tales.specs.Tale.{chipBehind, given, times, digits, reads, bytes}
+use Rattle.tales.specs.Tale.{Happens, telling, reads, bytes}
 use Rattle.tales.specs.Words.{command, set, hears, takes, resetStatus, presetReceived}
 use Rattle.tales.specs.Words.{sdlc, hearEight}
 use Rattle.tales.specs.Words.{hearing, flag, ones, frame00}
@@ -53,7 +52,7 @@ hunts = 0b11010001
 abbrev huntsOff : ℕ
 huntsOff = 0b11010000
 
-pub record Told : Type 0 where
+pub record Told (happens : Happens) : Type 0 where
   -- "a 0 after five ones is dropped"; "at the flag with the end mark"; marked example 4
   pub values : bytes happens (hearing 0 sdlc ++ frameFF) 0 3 ≡ 0xFF ∷ 0x00 ∷ 0xFF ∷ []
   pub good-end : reads happens (hearing 0 sdlc ++ frameFF ++ takes 0 2) 0 1 ≡ 0x87
@@ -103,8 +102,8 @@ pub record Told : Type 0 where
       reads happens (hearing 0 sdlc ++ presetWithin ++ takes 0 2) 0 1
       ≡ 0xC7
 
-pub told : Told
-unfolding computing chipBehind given times digits
+pub told : Told happens
+unfolding telling
 told = record {
   values = refl;
   good-end = refl;

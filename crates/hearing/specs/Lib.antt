@@ -2,3 +2,4 @@ pub mod Happens
 pub mod Characters
 pub mod Entries
 pub mod Frames
+pub mod Wrong

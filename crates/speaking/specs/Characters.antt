@@ -5,9 +5,8 @@
 use mathlib.Core.Path.{_≡_, refl}
 use mathlib.Core.List.{List, [], _∷_, _++_}
 use Prim.Native.Nat.{ℕ}
-use Rattle.chip.specs.Computing.{computing}
 use Rattle.chip.specs.Event.{Event, SetLines}
-use Rattle.tales.specs.Tale.{chipBehind, given, times, digits, reads, line}
+use Rattle.tales.specs.Tale.{Happens, telling, digits, reads, line}
 use Rattle.tales.specs.Words.{set, writes, ticks, oneStop, twoStops, oddParity}
 use Rattle.tales.specs.Words.{evenParity, sendEight}
 use Rattle.speaking.specs.Happens.{happens}
@@ -37,7 +36,7 @@ broken = 0b01111000
 abbrev enables : List Event
 enables = set 0 3 0b00100000
 
-pub record Told : Type 0 where
+pub record Told (happens : Happens) : Type 0 where
   -- "start 0, the low bits, parity, stop ones"; marked example 5
   pub eight-bits : line happens (sends oneStop sendEight 0x41) 0 11 ≡ digits 11 0b01000001011
   pub seven-bits : line happens (sends oneStop seven 0x3F) 0 10 ≡ digits 10 0b0111111011
@@ -80,8 +79,8 @@ pub record Told : Type 0 where
   pub cts-alone :
       line happens (enables ++ (SetLines 0 0 1 ∷ []) ++ sends oneStop off 0) 0 1 ≡ 1 ∷ []
 
-pub told : Told
-unfolding computing chipBehind given times digits
+pub told : Told happens
+unfolding telling
 told = record {
   eight-bits = refl;
   seven-bits = refl;

@@ -3,9 +3,8 @@
 use mathlib.Core.Path.{_≡_, refl}
 use mathlib.Core.List.{List, [], _∷_, _++_}
 use Prim.Native.Nat.{ℕ}
-use Rattle.chip.specs.Computing.{computing}
 use Rattle.chip.specs.Event.{Event}
-use Rattle.tales.specs.Tale.{chipBehind, given, times, digits, reads, line}
+use Rattle.tales.specs.Tale.{Happens, telling, digits, reads, line}
 use Rattle.tales.specs.Words.{command, set, writes, ticks, sendAbort, resetStatus, presetSent}
 use Rattle.tales.specs.Words.{clearUnderrun, sdlc, sendEight, sendChecked, framing}
 use Rattle.speaking.specs.Happens.{happens}
@@ -42,7 +41,7 @@ off = set 0 5 0b01100001
 abbrev broken : List Event
 broken = set 0 5 0b01111001
 
-pub record Told : Type 0 where
+pub record Told (happens : Happens) : Type 0 where
   -- marked examples 1 to 3: "mark (1 tick), flag, byte (low bit first), check (16)", the zero
   -- that is owed "sent next, even before the flag"
   pub byte-00 :
@@ -97,8 +96,8 @@ pub record Told : Type 0 where
   pub no-abort-off :
       reads happens (framing 0 ++ off ++ command 0 sendAbort ++ command 0 resetStatus) 0 0 ≡ 0x14
 
-pub told : Told
-unfolding computing chipBehind given times digits
+pub told : Told happens
+unfolding telling
 told = record {
   byte-00 = refl;
   byte-ff = refl;
