@@ -1,5 +1,5 @@
 -- What an event does to the chip of these tales. An edit of must-fail puts a wrong chip here, in
--- the one line, and names are brought for it; the other wrong chips stand in Wrong. Assumes nothing.
+-- the one line, and names are brought for it; other wrong chips stand in Wrong. Assumes nothing.
 use mathlib.Core.Bool.{false, _&&_}
 use Prim.Native.Nat.{_+_, _*_, _/_, _%_}
 use Rattle.common.specs.Choice.{if_then_else_}

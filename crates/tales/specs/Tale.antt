@@ -1,6 +1,6 @@
 -- How a tale is told: events happen to a chip from a hard reset on, and then something is asked of
--- it and compared. What an event does is handed in, so that a tale can be asked of a wrong chip too.
--- Assumes nothing.
+-- it and compared. What an event does is handed in, so that a wrong chip can be asked too. Assumes
+-- nothing.
 use mathlib.Core.List.{List, [], _∷_, _++_}
 use Prim.Native.Nat.{ℕ, zero, suc, _/_, _%_}
 use Rattle.channel.specs.declared.Answer.{Answer}
