@@ -4,8 +4,8 @@ use mathlib.Core.List.{List, [], _∷_, _++_}
 use Prim.Native.Nat.{ℕ}
 use Rattle.chip.specs.Event.{Event, SetLines, Acknowledge}
 use Rattle.tales.specs.Tale.{Happens, telling, reads, vector}
-use Rattle.tales.specs.Words.{set, writes, takes, ticks, oneStop, sdlc, hearing}
-use Rattle.tales.specs.Words.{sending, sendEight, char41, frame00}
+use Rattle.tales.specs.Words.{set, hears, writes, takes, ticks, oneStop, oddParity, sdlc}
+use Rattle.tales.specs.Words.{hearing, sending, sendEight, char41, frame00}
 use Rattle.asking.specs.Happens.{happens}
 
 -- WR2 = F1, status on: vectors are F1, F3 and so on by bits 3-1
@@ -26,6 +26,10 @@ sent ch wr1 = sending ch oneStop ++ set ch 1 wr1 ++ writes ch 0 ++ ticks ch 1
 -- A has heard a frame of three characters, its receive interrupt on for all
 abbrev heardFrame : List Event
 heardFrame = hearing 0 sdlc ++ set 0 1 0b11000 ++ frame00 0
+
+-- A hears 41 with a wrong parity bit, odd parity being set, in this receive mode
+abbrev wrongParity : ℕ → List Event
+wrongParity mode = hearing 0 oddParity ++ set 0 1 mode ++ hears 0 11 0b01000001001
 
 -- DCD has gone on
 abbrev carrier : ℕ → ℕ → List Event
@@ -58,6 +62,9 @@ pub record Told (happens : Happens) : Type 0 where
   -- "special: .. frame end", good or bad
   pub frame-end :
       reads happens (vectors ++ heardFrame ++ takes 0 2) 1 2 ≡ 0xFF
+  -- "parity in mode 2"
+  pub parity-in-mode-2 : reads happens (vectors ++ wrongParity 0b10000) 1 2 ≡ 0xFF
+  pub no-parity-in-mode-3 : reads happens (vectors ++ wrongParity 0b11000) 1 2 ≡ 0xFD
   -- RR0 "D1 any source pending (A; 0 in B)", in service or not
   pub d1-of-b-in-a : reads happens (carrier 1 0b1) 0 0 ≡ 0x46
   pub no-d1-in-b : reads happens (carrier 1 0b1) 1 0 ≡ 0x4C
@@ -82,6 +89,8 @@ told = record {
   a-before-b = refl;
   served-shows = refl;
   frame-end = refl;
+  parity-in-mode-2 = refl;
+  no-parity-in-mode-3 = refl;
   d1-of-b-in-a = refl;
   no-d1-in-b = refl;
   d1-in-service = refl;

@@ -25,6 +25,10 @@ frameFF = hears 0 42 0b011111101111101110000000011111011101111110
 abbrev flipped : List Event
 flipped = hears 0 40 0b0111111010000000000111100000111101111110
 
+-- the frame of 00 behind a flag that has come
+abbrev next00 : List Event
+next00 = hears 0 32 0b00000000000111100000111101111110
+
 -- 28 bits of content, and the zero behind five ones, whose remainder is that of a good check
 abbrev stray : List Event
 stray = flag 0 ++ hears 0 29 0b01000001011010111110100000010 ++ flag 0
@@ -57,6 +61,10 @@ pub record Told (happens : Happens) : Type 0 where
   pub values : bytes happens (hearing 0 sdlc ++ frameFF) 0 3 ≡ 0xFF ∷ 0x00 ∷ 0xFF ∷ []
   pub good-end : reads happens (hearing 0 sdlc ++ frameFF ++ takes 0 2) 0 1 ≡ 0x87
   pub bad-end : reads happens (hearing 0 sdlc ++ flipped ++ takes 0 2) 0 1 ≡ 0xC7
+  -- a flag's own bits are no content: the next frame, behind the same flag, has just its bytes
+  pub next-values :
+      bytes happens (hearing 0 sdlc ++ frame00 0 ++ takes 0 3 ++ next00) 0 3
+      ≡ 0x00 ∷ 0x78 ∷ 0xF0 ∷ []
   -- "Stray bits are thrown away and the check is bad."
   pub stray-bad : reads happens (hearing 0 sdlc ++ stray ++ takes 0 2) 0 1 ≡ 0xC7
   -- "Content under eight bits queues nothing."
@@ -108,6 +116,7 @@ told = record {
   values = refl;
   good-end = refl;
   bad-end = refl;
+  next-values = refl;
   stray-bad = refl;
   under-eight = refl;
   not-yet = refl;

@@ -44,6 +44,8 @@ pub record Told (happens : Happens) : Type 0 where
   -- "An accepted WR4 that changes the mode": the same mode again, with other parity, cuts nothing
   pub same-mode : reads happens (begun ++ set 0 4 oneStop) 0 1 ≡ 0x00
   pub same-but-parity : reads happens (begun ++ set 0 4 oddParity) 0 1 ≡ 0x00
+  -- a refused one changes nothing, "the register pointer included": the byte behind it is WR4 again
+  pub pointer-stays : reads happens (set 0 4 0xFF ++ command 0 sdlc) 0 0 ≡ 0x54
   -- "idles the sender as after a mark": no character is under way; no zero is owed, a flag begins
   pub idled : reads happens (begun ++ viaSdlc) 0 1 ≡ 0x01
   pub nothing-owed :
@@ -86,6 +88,7 @@ unfolding telling
 told = record {
   same-mode = refl;
   same-but-parity = refl;
+  pointer-stays = refl;
   idled = refl;
   nothing-owed = refl;
   buffer-kept = refl;

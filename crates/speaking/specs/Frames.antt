@@ -91,6 +91,9 @@ pub record Told (happens : Happens) : Type 0 where
   -- "Send Abort (SDLC, on, no abort under way; else nothing)": "A unit is under way until the next
   -- one's first bit"
   pub aborted : line happens (sent ++ command 0 sendAbort) 0 16 ≡ digits 16 0b1111111101111110
+  -- and drops the byte in the buffer: RR0 D2
+  pub buffer-dropped :
+      reads happens (holding 0 ++ ticks 0 9 ++ writes 0 0 ++ command 0 sendAbort) 0 0 ≡ 0x54
   pub abort-once :
       line happens (sent ++ command 0 sendAbort ++ ticks 0 8 ++ command 0 sendAbort) 0 8 ≡ flagBits
   pub no-abort-off :
@@ -120,6 +123,7 @@ told = record {
   broken-flag = refl;
   counted-on = refl;
   aborted = refl;
+  buffer-dropped = refl;
   abort-once = refl;
   no-abort-off = refl;
 }

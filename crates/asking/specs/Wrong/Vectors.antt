@@ -6,6 +6,7 @@ use Prim.Native.Nat.{_+_, _-_}
 use Rattle.common.specs.Choice.{if_then_else_}
 use lib.Dec.{eqb}
 use Rattle.interrupts.specs.Interrupts.{mayTake}
+use Rattle.settings.specs.Settings.{receiveMode}
 use Rattle.channel.specs.declared.Answer.the-variants.{Gave}
 use Rattle.channel.specs.Answer.{answerValue}
 use Rattle.channel.specs.Events.{pendingIn}
@@ -13,7 +14,7 @@ use Rattle.chip.specs.Interrupts.{chip, pendingOf, serviceOf, anyPending, rr2}
 use Rattle.chip.specs.Event.{step}
 use Rattle.tales.specs.Tale.{Happens, telling}
 use Rattle.tales.specs.Kind.{isAcknowledge, isRead}
-use Rattle.tales.specs.Parts.{withLatched, withEntries}
+use Rattle.tales.specs.Parts.{withWr1, withLatched, withEntries}
 use Rattle.tales.specs.Wrong.{firstA, saying}
 use Rattle.tales.specs.Refused.{other-number}
 use Rattle.asking.specs.Vectors.{Told}
@@ -55,6 +56,17 @@ frameEndIsNotSpecial =
 pub frameEndIsNotSpecial-refused : Told frameEndIsNotSpecial → ⊥
 unfolding telling
 frameEndIsNotSpecial-refused t = other-number (t .frame-end) refl
+
+-- A takes receive interrupt mode 3 for mode 2
+abbrev paritySpecialInMode3 : Happens
+paritySpecialInMode3 =
+    firstA (λ a e.
+    let v = a .registers .wr1 in
+    withWr1 a (if eqb (receiveMode v) 3 then v - 8 else v))
+
+pub paritySpecialInMode3-refused : Told paritySpecialInMode3 → ⊥
+unfolding telling
+paritySpecialInMode3-refused t = other-number (t .no-parity-in-mode-3) refl
 
 -- RR0 of B has D1 as A's has
 abbrev showsD1InB : Happens

@@ -11,6 +11,7 @@ use Rattle.settings.specs.Settings.{store3, store4, autoEnables}
 use Rattle.tales.specs.Tale.{Happens, telling}
 use Rattle.tales.specs.Kind.{isQueued, isDeaf, isBit}
 use Rattle.tales.specs.Parts.{withAssembly, withParity, withBroken, withEntries, withHeardBits}
+use Rattle.tales.specs.Parts.{withLatches}
 use Rattle.tales.specs.Wrong.{butA, firstA, takingA}
 use Rattle.tales.specs.Refused.{other-number, other-list}
 use Rattle.hearing.specs.Characters.{Told}
@@ -59,6 +60,26 @@ hearsParityTheOtherWay =
 pub hearsParityTheOtherWay-refused : Told hearsParityTheOtherWay → ⊥
 unfolding telling
 hearsParityTheOtherWay-refused t = other-number (t .odd-heard) refl
+
+-- A marks right parity wrong, and wrong parity right
+abbrev parityIsSwapped : Happens
+parityIsSwapped =
+    butA (λ was e is.
+    let turned = withEntries is (λ x. record {
+      byte = x .byte;
+      parity = not (x .parity);
+      overrun = x .overrun;
+      framing = x .framing;
+      ends = x .ends;
+      bad = x .bad;
+    }) in
+    if isQueued 0 was e is
+    then withLatches turned (not (is .queue .parity)) (is .queue .overrun)
+    else is)
+
+pub parityIsSwapped-refused : Told parityIsSwapped → ⊥
+unfolding telling
+parityIsSwapped-refused t = other-number (t .odd-heard) refl
 
 -- A judges parity as WR4 is when the stop bit comes
 abbrev parityIsJudgedAtTheStop : Happens

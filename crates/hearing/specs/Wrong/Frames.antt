@@ -1,14 +1,15 @@
 -- Wrong chips that do not tell the tales of Frames: SDLC receiving. Assumes nothing.
 use mathlib.Core.Path.{refl}
-use mathlib.Core.Bool.{Bool, true, not, _&&_}
+use mathlib.Core.Bool.{Bool, true, false, not, _&&_}
 use Prim.Native.Nat.{ℕ, _/_}
 use Rattle.common.specs.Choice.{if_then_else_}
 use lib.Dec.{eqb}
 use Rattle.line.specs.Bits.{odd}
+use Rattle.sdlc.specs.Hearing.{content, noChars}
 use Rattle.chip.specs.Event.{Event}
 use Rattle.tales.specs.Tale.{Happens, telling}
 use Rattle.tales.specs.Kind.{isDeaf, valueOf, isBit, isWrite}
-use Rattle.tales.specs.Parts.{withContent, withBroken, withSkip, withOnes}
+use Rattle.tales.specs.Parts.{withContent, withBroken, withSkip, withOnes, withEntries}
 use Rattle.tales.specs.Wrong.{butA, firstA}
 use Rattle.tales.specs.Refused.{other-number, other-list}
 use Rattle.hearing.specs.Frames.{Told}
@@ -25,6 +26,35 @@ keepsInsertedZeros =
 pub keepsInsertedZeros-refused : Told keepsInsertedZeros → ⊥
 unfolding telling
 keepsInsertedZeros-refused t = other-list (t .values) refl
+
+-- A calls every frame's check good
+abbrev marksEveryEndGood : Happens
+marksEveryEndGood =
+    butA (λ was e is. withEntries is (λ x. record {
+      byte = x .byte;
+      parity = x .parity;
+      overrun = x .overrun;
+      framing = x .framing;
+      ends = x .ends;
+      bad = false;
+    }))
+
+pub marksEveryEndGood-refused : Told marksEveryEndGood → ⊥
+unfolding telling
+marksEveryEndGood-refused t = other-number (t .bad-end) refl
+
+-- a flag leaves its own bits in the delay of A
+abbrev takesFlagBitsAsContent : Happens
+takesFlagBitsAsContent =
+    butA (λ was e is.
+    let t = was .receiver .content in
+    if eqb (t .ones) 6 && eqb (is .receiver .content .ones) 0
+    then withContent is (content false false 0 (t .delay) noChars)
+    else is)
+
+pub takesFlagBitsAsContent-refused : Told takesFlagBitsAsContent → ⊥
+unfolding telling
+takesFlagBitsAsContent-refused t = other-list (t .next-values) refl
 
 -- seven ones do not set A's D7
 abbrev doesNotTellAnAbort : Happens

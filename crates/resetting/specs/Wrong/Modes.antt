@@ -5,7 +5,11 @@ use Rattle.common.specs.Choice.{if_then_else_}
 use lib.Dec.{eqb}
 use Rattle.line.specs.Check as check
 use Rattle.sender.specs.Sender.{idled}
-use Rattle.channel.specs.Channel.{withSender, withTransmit}
+use Rattle.channel.specs.Channel.{withSender, withPointer, withTransmit}
+use Rattle.channel.specs.Answer.{answerNumber}
+use Rattle.chip.specs.Interrupts.{chip}
+use Rattle.chip.specs.Chip.{outcome}
+use Rattle.chip.specs.Event.{step}
 use Rattle.tales.specs.Tale.{Happens, telling}
 use Rattle.tales.specs.Kind.{isBit, isWrite, isChange}
 use Rattle.tales.specs.Parts.{withWr4, withCharacter, withBuffer, withSentCheck, withAssembly}
@@ -22,6 +26,18 @@ everyWr4Idles =
 pub everyWr4Idles-refused : Told everyWr4Idles → ⊥
 unfolding telling
 everyWr4Idles-refused t = other-number (t .same-mode) refl
+
+-- a refused WR4 sets A's pointer to 0
+abbrev clearsThePointerAtARefusal : Happens
+clearsThePointerAtARefusal c e =
+    let o = step c e in
+    if eqb (answerNumber (o .answer)) 3
+    then outcome (o .answer) (chip (withPointer (c .a) 0) (c .b))
+    else o
+
+pub clearsThePointerAtARefusal-refused : Told clearsThePointerAtARefusal → ⊥
+unfolding telling
+clearsThePointerAtARefusal-refused t = other-number (t .pointer-stays) refl
 
 -- a change of mode leaves A's character under way
 abbrev modeChangeKeepsTheCharacter : Happens

@@ -7,6 +7,7 @@ use lib.Dec.{eqb}
 use Rattle.line.specs.Bits.{odd}
 use Rattle.asynchronous.specs.Sending.{noCharacter}
 use Rattle.settings.specs.Settings.{store4, store5, stopField, autoEnables}
+use Rattle.channel.specs.Events.{dataWritten}
 use Rattle.chip.specs.Interrupts.{chip}
 use Rattle.chip.specs.Event.{Transmit, step}
 use Rattle.tales.specs.Tale.{Happens, telling, chipBehind, times}
@@ -60,6 +61,16 @@ keepsWhatItsBufferHas =
 pub keepsWhatItsBufferHas-refused : Told keepsWhatItsBufferHas → ⊥
 unfolding telling
 keepsWhatItsBufferHas-refused t = other-list (t .replaced) refl
+
+-- a data write to B gives B what A would be behind it
+abbrev writesDataForBFromA : Happens
+writesDataForBFromA =
+    but (λ was e is.
+    if isData 1 e then chip (is .a) (dataWritten (was .a) (valueOf e)) else is)
+
+pub writesDataForBFromA-refused : Told writesDataForBFromA → ⊥
+unfolding telling
+writesDataForBFromA-refused t = other-number (t .byte-in-b) refl
 
 -- while A's break lasts its character waits
 abbrev breakHoldsTheSteps : Happens

@@ -16,7 +16,7 @@ use Rattle.channel.specs.Channel.{withStatus}
 use Rattle.channel.specs.Answer.{answerValue}
 use Rattle.tales.specs.Tale.{Happens, telling}
 use Rattle.tales.specs.Kind.{isLoad, valueOf, isRead, isTick, isCommand, isWrite}
-use Rattle.tales.specs.Parts.{withUnit, withInsertion, withLatch, withSentCheck}
+use Rattle.tales.specs.Parts.{withUnit, withInsertion, withBuffer, withLatch, withSentCheck}
 use Rattle.tales.specs.Wrong.{butA, firstA, saying}
 use Rattle.tales.specs.Refused.{other-number, other-list}
 use Rattle.speaking.specs.Frames.{Told}
@@ -119,6 +119,19 @@ d2LeavesTheCheckOut =
 pub d2LeavesTheCheckOut-refused : Told d2LeavesTheCheckOut → ⊥
 unfolding telling
 d2LeavesTheCheckOut-refused t = other-number (t .no-d2) refl
+
+-- Send Abort leaves the byte in A's buffer
+abbrev abortKeepsTheBuffer : Happens
+abortKeepsTheBuffer =
+    butA (λ was e is.
+    let k = was .sender .shared in
+    if aborting (is .sender .unit) && not (aborting (was .sender .unit))
+    then withBuffer is (k .buffer) (k .full)
+    else is)
+
+pub abortKeepsTheBuffer-refused : Told abortKeepsTheBuffer → ⊥
+unfolding telling
+abortKeepsTheBuffer-refused t = other-number (t .buffer-dropped) refl
 
 -- A's abort is no longer under way once its ones are sent
 abbrev abortEndsWithItsLastOne : Happens
