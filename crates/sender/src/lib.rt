@@ -23,11 +23,11 @@ ghost use Rattle.sender.specs.Sender.{withShared, blockIn, tickInBlocks,
 
 // SDLC's unit and zero insertion, the asynchronous character, the unit of Monosync and Bisync, and what all modes share.
 pub struct Sender {
-    pub unit: LineUnit,
-    pub insertion: Insertion,
-    pub character: Character,
-    pub block: BlockUnit,
     pub shared: Shared,
+    pub block: BlockUnit,
+    pub unit: LineUnit,
+    pub character: Character,
+    pub insertion: Insertion,
 }
 
 // What registers and CTS say of sending. broken: WR5 D4.
