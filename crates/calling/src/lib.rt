@@ -46,12 +46,14 @@ pub fn look(c: Chip) -> Chip
     o.chip
 }
 
-// A transmit tick.
-pub fn tick(c: Chip) -> Chip
+// A transmit tick, by the channel's own method: a station ticks no other channel.
+pub fn tick(mut c: Chip) -> Chip
     ensures { λ r. ⌜ r ≡ tickA c ⌝ }
 {
-    let o = c.transmit(CHANNEL_A);
-    o.chip
+    let o = c.a.transmit_tick();
+    let a = o.channel;
+    c.a = a;
+    c
 }
 
 // So many transmit ticks, with nothing to write.
