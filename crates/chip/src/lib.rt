@@ -34,16 +34,6 @@ pub struct Acknowledged {
     pub chip: Chip,
 }
 
-// A channel's event that gives no value, as a call answers it.
-fn done(c: Channel) -> Answered
-    ensures { λ r. ⌜ r ≡ answered Done c ⌝ }
-{
-    Answered {
-        answer: Answer::Done,
-        channel: c,
-    }
-}
-
 // A transmit tick of a channel whatever its unit is. The channel is copied here, so that a tick inside a byte need not lay it out for this one.
 fn ticked(c: Channel) -> Answered
     ensures { λ r. ⌜ r ≡ transmitTick c ⌝ }
@@ -232,14 +222,20 @@ impl Chip {
         ensures { λ r. ⌜ r ≡ inA self (answered Done (receiveTick (self .a) bit)) ⌝ }
     {
         let a = self.a;
-        self.in_a(done(a.receive_tick(bit)))
+        self.in_a(Answered {
+            answer: Answer::Done,
+            channel: a.receive_tick(bit),
+        })
     }
 
     fn heard_b(self, bit: bool) -> Outcome
         ensures { λ r. ⌜ r ≡ inB self (answered Done (receiveTick (self .b) bit)) ⌝ }
     {
         let b = self.b;
-        self.in_b(done(b.receive_tick(bit)))
+        self.in_b(Answered {
+            answer: Answer::Done,
+            channel: b.receive_tick(bit),
+        })
     }
 
     // A's receive tick, and B's; most lie inside a character.
@@ -250,10 +246,10 @@ impl Chip {
             return self.refused(Refusal::Level);
         }
         if self.a.hears_block() {
-            return self.in_a(done(self.a.hear_block(bit == 1)));
+            return self.in_a(self.a.hear_block(bit == 1));
         }
         if self.a.hears_within(bit == 1) {
-            return self.in_a(done(self.a.hear_within(bit == 1)));
+            return self.in_a(self.a.hear_within(bit == 1));
         }
         self.heard_a(bit == 1)
     }
@@ -265,10 +261,10 @@ impl Chip {
             return self.refused(Refusal::Level);
         }
         if self.b.hears_block() {
-            return self.in_b(done(self.b.hear_block(bit == 1)));
+            return self.in_b(self.b.hear_block(bit == 1));
         }
         if self.b.hears_within(bit == 1) {
-            return self.in_b(done(self.b.hear_within(bit == 1)));
+            return self.in_b(self.b.hear_within(bit == 1));
         }
         self.heard_b(bit == 1)
     }

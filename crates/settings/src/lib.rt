@@ -140,11 +140,12 @@ fn stops_of(wr4: u8) -> u8
 }
 
 impl Registers {
-    // The mode.
+    // The mode; copied by itself, so that a tick need not lay the registers out for it (bench/README.md).
     pub fn mode(self) -> Mode
         ensures { λ r. ⌜ r ≡ modeIn self ⌝ }
     {
-        self.mode
+        let mode = self.mode;
+        mode
     }
 
     // A WR4 that is accepted, and the mode that it chooses.
