@@ -29,8 +29,6 @@ pub struct Channel {
     pub lines: Lines,
     pub status: Status,
     pub receiver: Receiver,
-    // transmit is pending
-    pub transmit: bool,
     // the sources in service
     pub service: Sources,
     // the first-character interrupt
@@ -38,6 +36,8 @@ pub struct Channel {
     // the register that the next control read or write names
     pub pointer: u8,
     pub queue: Queue,
+    // transmit is pending
+    pub transmit: bool,
     pub sender: Sender,
     pub registers: Registers,
 }

@@ -11,6 +11,7 @@ use Rattle.bytesync.specs.declared.Syncs.{Syncs}
 use Rattle.bytesync.specs.Syncs.{syncs, polynomialOf}
 use Rattle.bytesync.specs.Sending.{syncing}
 use Rattle.bytesync.specs.Hearing.{matching}
+use Rattle.sdlc.specs.declared.Framing.{Framing}
 use Rattle.sender.specs.declared.Sending.{Sending}
 use Rattle.receiver.specs.declared.Receiving.{Receiving}
 use Rattle.settings.specs.declared.Registers.{Registers}
@@ -137,11 +138,14 @@ abbrev pub breaks : ℕ → Bool
 breaks wr5 = odd (wr5 / 16)
 
 -- "WR5: D0 Tx check included, D3 on, D4 break, D6-5 length."
+abbrev pub framingOf : Registers → Lines → Framing
+framingOf r l = record { on = sends r l; included = odd (r .wr5) }
+
 unfoldable pub sendingOf : Registers → Lines → Sending
 sendingOf r l = record {
   mode = modeIn r;
   broken = breaks (r .wr5);
-  framing = record { on = sends r l; included = odd (r .wr5) };
+  framing = framingOf r l;
   typing = record {
     on = sends r l;
     format = formatOf r (r .wr5 / 32 % 4);

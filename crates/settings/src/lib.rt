@@ -13,7 +13,7 @@ use sender::Sending;
 ghost use mathlib.Core.Path.{_≡_};
 ghost use Rattle.settings.specs.Settings.{pointerIn, commandIn, presetIn, externalOn, transmitOn, statusAffects, receiveMode, entersHunt, breaks};
 ghost use Rattle.settings.specs.Settings.{modeOf, modeIn, store4, syncsIn, polynomialIn, notBuilt};
-ghost use Rattle.settings.specs.Settings.{lengthOf, stopsOf, autoEnables, formatOf, sends, sendingOf, receivingOf};
+ghost use Rattle.settings.specs.Settings.{lengthOf, stopsOf, autoEnables, formatOf, sends, framingOf, sendingOf, receivingOf};
 
 // WR1 to WR7 as they were written; WR2 in channel B alone. The mode is what the last WR4 chose, none since a reset.
 pub struct Registers {
@@ -207,6 +207,16 @@ impl Registers {
         (self.wr5 / 8 % 2 == 1) & (!self.auto_enables() | l.cts)
     }
 
+    // What SDLC's sender is told.
+    pub fn framing(self, l: Lines) -> Framing
+        ensures { λ r. ⌜ r ≡ framingOf self l ⌝ }
+    {
+        Framing {
+            on: self.sends(l),
+            included: self.wr5 % 2 == 1,
+        }
+    }
+
     // The sender's settings.
     pub fn sending(self, l: Lines) -> Sending
         ensures { λ r. ⌜ r ≡ sendingOf self l ⌝ }
@@ -215,10 +225,7 @@ impl Registers {
         Sending {
             mode: self.mode(),
             broken: self.wr5 / 16 % 2 == 1,
-            framing: Framing {
-                on,
-                included: self.wr5 % 2 == 1,
-            },
+            framing: self.framing(l),
             typing: Typing {
                 on,
                 format: self.format(self.wr5 / 32 % 4),

@@ -20,8 +20,14 @@ with-wr4-requires c κs = search needs
 returns : tie.Need-returns
 unfolding setWr4
 returns c =
-    simp (tests, c .if1 .taken, c .before .with-wr4 .ensures, ← c .before .before .same-mode .ensures,
-    ← c .before .before .before .mode .ensures, ← c .before .before .before .before .mode-of .ensures)
+    simp (
+      tests,
+      c .if1 .taken,
+      c .before .with-wr4 .ensures,
+      ← c .before .before .same-mode .ensures,
+      ← c .before .before .before .mode .ensures,
+      ← c .before .before .before .before .mode-of .ensures,
+    )
 
 in-mode-requires : tie.Need-in-mode-requires
 in-mode-requires c κs = search needs
@@ -29,8 +35,15 @@ in-mode-requires c κs = search needs
 returns-2 : tie.Need-returns-2
 unfolding setWr4
 returns-2 c =
-    simp (tests, c .before .if1 .left, c .in-mode .ensures, c .before .before .with-wr4 .ensures, ← c .before .before .before .same-mode .ensures,
-    ← c .before .before .before .before .mode .ensures, ← c .before .before .before .before .before .mode-of .ensures)
+    simp (
+      tests,
+      c .before .if1 .left,
+      c .in-mode .ensures,
+      c .before .before .with-wr4 .ensures,
+      ← c .before .before .before .same-mode .ensures,
+      ← c .before .before .before .before .mode .ensures,
+      ← c .before .before .before .before .before .mode-of .ensures,
+    )
 
 pub set-wr4-spec : {M : Type 1} → statement M
 set-wr4-spec =

@@ -18,8 +18,8 @@ use Rattle.queue.proofs.Queue.take.Tie as tie
 -- one entry or more: the next becomes the oldest, if there is a next
 taken-some : (es : List Entry) (p o : Bool) (n : ℕ) → 0 < n
     → taken (queue es n p o)
-      ≡ queue (movedUp es) (n - 1) ((not (eqb n 1) && getD es 1 noEntry .parity) || p)
-          ((not (eqb n 1) && getD es 1 noEntry .overrun) || o)
+    ≡ queue (movedUp es) (n - 1) ((not (eqb n 1) && getD es 1 noEntry .parity) || p)
+    ((not (eqb n 1) && getD es 1 noEntry .overrun) || o)
 unfolding taken
 taken-some es p o zero h = absurd (omega arith)
 taken-some es p o (suc zero) h = refl
