@@ -1,19 +1,35 @@
-// A station opens a note's frame on channel A of a chip: a flag has ended, the check is preset, the latch cleared and the first byte written. Before a
-// next note a flag of its own goes out, if that is how notes follow each other. Assumes nothing.
-use calling::CLEAR_LATCH;
-use calling::PRESET_CHECK;
-use calling::control;
-use calling::ticked;
-use calling::write;
+// A station opens a note's frame on channel A of a chip, whatever that was doing: a flag has ended, the check is preset, the latch cleared and the
+// first byte written. Assumes nothing.
+mod calling;
+mod ready;
+
+use crate::calling::CHANNEL_A;
+use crate::calling::CLEAR_LATCH;
+use crate::calling::PRESET_CHECK;
+use crate::calling::control;
+use crate::calling::write;
+use crate::ready::prepared;
 use chip::Chip;
-use flags::Between;
 use flags::FLAG;
-use ready::prepared;
 use sdlc::LineUnit;
 ghost use mathlib.Core.Path.{_≡_};
+ghost use mathlib.Core.List.{[]};
 ghost use Prim.Native.Nat.{_<_};
-ghost use Rattle.drive.specs.Drive.{ticksToFlag, flagEnded, frameOpened};
-ghost use Rattle.listline.specs.ListLine.{beforeNote};
+ghost use Rattle.drive.specs.Drive.{driven, ticksToFlag, flagEnded, frameOpened};
+
+// So many transmit ticks, with nothing to write.
+pub fn ticked(c: Chip, n: usize) -> Chip
+    ensures { λ r. ⌜ r ≡ driven n c [] ⌝ }
+{
+    let mut d = c;
+    let mut left = n;
+    while 0 < left {
+        let o = d.transmit(CHANNEL_A);
+        d = o.chip;
+        left = left - 1;
+    }
+    d
+}
 
 // A count of bits, wide.
 fn wide(n: u8) -> usize
@@ -52,14 +68,4 @@ pub fn open_frame(c: Chip, v: u8) -> Chip
 {
     let d = control(flag_ended(c), PRESET_CHECK);
     write(control(d, CLEAR_LATCH), v)
-}
-
-// The chip before a note, so many having gone.
-pub fn before_note(c: Chip, between: Between, gone: usize) -> Chip
-    ensures { λ r. ⌜ r ≡ beforeNote between gone c ⌝ }
-{
-    if gone == 0 {
-        return c;
-    }
-    ticked(c, between.own_flag())
 }

@@ -2,8 +2,9 @@
 use crate::ListSent;
 use crate::Listed;
 use crate::ROW;
+use crate::fitting::before_note;
+use crate::fitting::send_fitting;
 use chip::Chip;
-use fitting::send_next;
 use flags::Between;
 use head::LENGTH_BYTES;
 use head::note_at;
@@ -58,7 +59,7 @@ pub(crate) fn send_notes(
     let mut sum: usize = 0;
     while notes < n {
         let note = note_at(list, i);
-        let w = send_next(d, between, notes, note);
+        let w = send_fitting(before_note(d, between, notes), note);
         let m = notes + 1;
         put_row(rows, told, ROW * notes, m, note.len(), w.zeros, w.ticks);
         sum = sum + w.ticks;
