@@ -1,6 +1,7 @@
 // A station opens a note's frame on channel A of a chip, whatever that was doing: a flag has ended, the check is preset, the latch cleared and the
-// first byte written. Assumes nothing.
+// first byte written. Its SDLC sender, fed on its own from there on, is put back. Assumes nothing.
 mod calling;
+mod putback;
 mod ready;
 
 use crate::calling::CHANNEL_A;
@@ -8,27 +9,29 @@ use crate::calling::CLEAR_LATCH;
 use crate::calling::PRESET_CHECK;
 use crate::calling::control;
 use crate::calling::write;
+use crate::putback::channel_with;
 use crate::ready::prepared;
 use chip::Chip;
 use flags::FLAG;
+use sdlc::Framer;
 use sdlc::LineUnit;
 ghost use mathlib.Core.Path.{_≡_};
 ghost use mathlib.Core.List.{[]};
 ghost use Prim.Native.Nat.{_<_};
 ghost use Rattle.drive.specs.Drive.{driven, ticksToFlag, flagEnded, frameOpened};
+ghost use Rattle.drive.specs.Framer.{chipWith};
 
 // So many transmit ticks, with nothing to write.
-pub fn ticked(c: Chip, n: usize) -> Chip
+pub fn ticked(mut c: Chip, n: usize) -> Chip
     ensures { λ r. ⌜ r ≡ driven n c [] ⌝ }
 {
-    let mut d = c;
     let mut left = n;
     while 0 < left {
-        let o = d.transmit(CHANNEL_A);
-        d = o.chip;
+        let o = c.transmit(CHANNEL_A);
+        c = o.chip;
         left = left - 1;
     }
-    d
+    c
 }
 
 // A count of bits, wide.
@@ -68,4 +71,12 @@ pub fn open_frame(c: Chip, v: u8) -> Chip
 {
     let d = control(flag_ended(c), PRESET_CHECK);
     write(control(d, CLEAR_LATCH), v)
+}
+
+// A chip after ticks and data writes of A's SDLC sender alone, which has come to this.
+pub fn chip_with(mut c: Chip, f: Framer) -> Chip
+    ensures { λ r. ⌜ r ≡ chipWith c f ⌝ }
+{
+    c.a = channel_with(c.a, f);
+    c
 }

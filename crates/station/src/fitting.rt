@@ -1,10 +1,10 @@
 // One note through channel A of a chip: the chip is made ready, its SDLC sender fed to the end of the frame, and put back. Before a next note a flag of
 // its own goes out, if that is how notes follow each other. Assumes nothing.
-use crate::putback::chip_with;
 use chip::Chip;
 use feed::feed_frame;
 use flags::Between;
 use flags::FLAG;
+use opening::chip_with;
 use opening::open_frame;
 use opening::ticked;
 ghost use mathlib.Core.Path.{_≡_};

@@ -2,7 +2,6 @@
 // doing. Assumes nothing.
 mod fitting;
 mod list;
-mod putback;
 
 use crate::fitting::send_fitting;
 use crate::list::send_notes;

@@ -10,10 +10,10 @@ use Rattle.opening.proofs.ticked.Statement.{statement}
 use Rattle.opening.proofs.ticked.Tie as tie
 
 abbrev Inv-loop : tie.InvT-loop
-Inv-loop n d₀ left₀ d left = driven left d [] ≡ driven left₀ d₀ []
+Inv-loop c₀ n left₀ c left = driven left c [] ≡ driven left₀ c₀ []
 
 abbrev μ-loop : tie.MeasureT-loop
-μ-loop n d₀ left₀ d left = left
+μ-loop c₀ n left₀ c left = left
 
 loop-holds : tie.Need-loop-holds Inv-loop μ-loop
 loop-holds c = refl
@@ -31,11 +31,11 @@ loop-again : tie.Need-loop-again Inv-loop μ-loop
 unfolding tickA
 loop-again c =
     let l = c .before .before .before .loop in
-    rw (c .before .transmit .ensures) (sym (driven-step (l .left) (l .d) (c .before .before .loop-test .taken)) ∙ l .inv)
+    rw (c .before .transmit .ensures) (sym (driven-step (l .left) (l .c) (c .before .before .loop-test .taken)) ∙ l .inv)
 
 returns : tie.Need-returns Inv-loop μ-loop
 returns c =
-    let l = c .before .loop in sym (driven-none (l .left) (l .d) (c .loop-test .left)) ∙ l .inv
+    let l = c .before .loop in sym (driven-none (l .left) (l .c) (c .loop-test .left)) ∙ l .inv
 
 pub ticked-spec : {M : Type 1} → statement M
 ticked-spec =

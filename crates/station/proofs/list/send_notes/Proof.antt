@@ -28,14 +28,14 @@ use Rattle.station.proofs.list.send_notes.Statement.{statement}
 use Rattle.station.proofs.list.send_notes.Tie as tie
 
 abbrev Inv-loop : tie.InvT-loop
-Inv-loop list rows₀ n between told d₀ i₀ notes₀ sum₀ rows d i notes sum =
-    (walk (oneSent between told) (allSent between) (noneSent d₀ rows₀) (walked d notes sum rows) (restFrom list i)
-    ≡ walkedList (listedOf (reportOf between list)) (chipAfter between d₀ (readList list)) (rowsIn rows₀ (reportOf between list)))
+Inv-loop c₀ list rows₀ n between told i₀ notes₀ sum₀ c rows i notes sum =
+    (walk (oneSent between told) (allSent between) (noneSent c₀ rows₀) (walked c notes sum rows) (restFrom list i)
+    ≡ walkedList (listedOf (reportOf between list)) (chipAfter between c₀ (readList list)) (rowsIn rows₀ (reportOf between list)))
     × ((scanned (restFrom list i) ≡ Notes (n - notes)) × ((length rows ≡ length rows₀)
     × ((notes ≤ n) × ((3 * notes + 1 ≤ i) × ((i ≤ length list + 1) × (sum ≤ 19696 * notes))))))
 
 abbrev μ-loop : tie.MeasureT-loop
-μ-loop list rows₀ n between told d₀ i₀ notes₀ sum₀ rows d i notes sum = n - notes
+μ-loop c₀ list rows₀ n between told i₀ notes₀ sum₀ c rows i notes sum = n - notes
 
 loop-holds : tie.Need-loop-holds Inv-loop μ-loop
 loop-holds c =
@@ -146,7 +146,7 @@ loop-again c =
     let sent = c .before .before .before .before .before .before .send-fitting .ensures in
     let ticks = sent .1 .0 ∙ ap ticksOf text in
     let few = ticks-few (noteAt list (l .i)) (x .fits) in
-    let behind = sentBy (beforeNote (s .args .between) (l .notes) (l .d)) in
+    let behind = sentBy (beforeNote (s .args .between) (l .notes) (l .c)) in
     let chip =
     sent .1 .1 ∙ ap (λ (y : Chip). sentBy y (now (c .before .before .before .before .before .before .before .before .note-at .result))) (c .before .before .before .before .before .before .before .before-note .ensures)
     ∙ ap behind text in
@@ -154,7 +154,7 @@ loop-again c =
     let told = hasRoom (s .args .n) rows in
     let i = l .i in
     let note = noteAt list i in
-    let was = walked (l .d) (l .notes) (l .sum) (l .rows) in
+    let was = walked (l .c) (l .notes) (l .sum) (l .rows) in
     let one =
     one-sent (s .args .between) told was note (ap length text) (sent .0 ∙ ap zerosOf text) ticks chip (c .before .before .before .before .put-row .ensures) in
     let at = ap (λ (t : List ℕ). i + 2 + length t) text in
@@ -193,11 +193,11 @@ returns c =
     let list = now (s .args .list) in
     let rows = now (s .args .rows) in
     let none : s .args .n - l .notes ≤ 0 = omega (arith, c .before .loop-test .left) in
-    let was = walked (l .d) (l .notes) (l .sum) (l .rows) in
+    let was = walked (l .c) (l .notes) (l .sum) (l .rows) in
     let e =
     sym (walk-last (oneSent (s .args .between) (hasRoom (s .args .n) rows)) (allSent (s .args .between)) (noneSent (s .args .c) rows) was list (l .i) (s .args .n - l .notes) none (l .inv .1 .0))
     ∙ l .inv .0 in (
-      ap (λ (k : ℕ). listSent (listed.All (l .notes) k) (l .d)) (c .in-all .ensures)
+      ap (λ (k : ℕ). listSent (listed.All (l .notes) k) (l .c)) (c .in-all .ensures)
           ∙ ap (λ (y : WalkedList). listSent (y .answer) (y .chip)) e,
       ap (λ (y : WalkedList). y .rows) e,
     )

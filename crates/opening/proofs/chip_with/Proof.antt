@@ -1,7 +1,7 @@
--- `station::putback::chip_with` meets its contract. Assumes nothing.
+-- `opening::chip_with` meets its contract. Assumes nothing.
 use borrow.Author.Needs.{needs}
-use Rattle.station.proofs.putback.chip_with.Statement.{statement}
-use Rattle.station.proofs.putback.chip_with.Tie as tie
+use Rattle.opening.proofs.chip_with.Statement.{statement}
+use Rattle.opening.proofs.chip_with.Tie as tie
 
 channel-with-requires : tie.Need-channel-with-requires
 channel-with-requires c κs = search needs

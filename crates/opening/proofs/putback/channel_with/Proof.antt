@@ -1,7 +1,7 @@
--- `station::putback::channel_with` meets its contract. Assumes nothing.
+-- `opening::putback::channel_with` meets its contract. Assumes nothing.
 use borrow.Author.Needs.{needs}
-use Rattle.station.proofs.putback.channel_with.Statement.{statement}
-use Rattle.station.proofs.putback.channel_with.Tie as tie
+use Rattle.opening.proofs.putback.channel_with.Statement.{statement}
+use Rattle.opening.proofs.putback.channel_with.Tie as tie
 
 live-requires : tie.Need-live-requires
 live-requires c κs = search needs
