@@ -5,9 +5,8 @@
 use mathlib.Core.Path.{_≡_, refl}
 use mathlib.Core.List.{List, [], _∷_, _++_}
 use Prim.Native.Nat.{ℕ}
-use Rattle.chip.specs.Computing.{computing}
 use Rattle.chip.specs.Event.{Event, Receive, SetLines}
-use Rattle.tales.specs.Tale.{chipBehind, times, digits, reads}
+use Rattle.tales.specs.Tale.{Happens, telling, reads}
 use Rattle.tales.specs.Words.{command, set, sendAbort, resetStatus, clearUnderrun, oneStop, sdlc}
 use Rattle.tales.specs.Words.{hearing, framing, blank, flag, ones}
 use Rattle.asking.specs.Happens.{happens}
@@ -31,7 +30,7 @@ broken = hearing 0 oneStop ++ asking ++ blank 0 ++ afresh
 abbrev opened : List Event
 opened = hearing 0 sdlc ++ flag 0 ++ afresh ++ afresh ++ asking
 
-pub record Told : Type 0 where
+pub record Told (happens : Happens) : Type 0 where
   -- any change latches
   pub dcd-rises : reads happens (asking ++ lines 1 0) 0 0 ≡ 0x4E
   pub cts-rises : reads happens (asking ++ lines 0 1) 0 0 ≡ 0x66
@@ -56,8 +55,8 @@ pub record Told : Type 0 where
   -- an abort's D7 stays "until the next 0"
   pub abort-stays : reads happens (opened ++ ones 0 7 ++ afresh) 0 0 ≡ 0xC4
 
-pub told : Told
-unfolding computing chipBehind times digits
+pub told : Told happens
+unfolding telling
 told = record {
   dcd-rises = refl;
   cts-rises = refl;

@@ -3,3 +3,4 @@ pub mod Pending
 pub mod Serving
 pub mod Vectors
 pub mod Latching
+pub mod Wrong

@@ -3,9 +3,8 @@
 use mathlib.Core.Path.{_≡_, refl}
 use mathlib.Core.List.{List, [], _∷_, _++_}
 use Prim.Native.Nat.{ℕ}
-use Rattle.chip.specs.Computing.{computing}
 use Rattle.chip.specs.Event.{Event, SetLines}
-use Rattle.tales.specs.Tale.{chipBehind, times, digits, reads}
+use Rattle.tales.specs.Tale.{Happens, telling, reads}
 use Rattle.tales.specs.Words.{command, set, writes, takes, ticks, arm, resetTransmit, oneStop}
 use Rattle.tales.specs.Words.{hearing, sending, char41, cut41}
 use Rattle.asking.specs.Happens.{happens}
@@ -25,7 +24,7 @@ loaded wr1 = sending 0 oneStop ++ set 0 1 wr1 ++ writes 0 0x41 ++ ticks 0 1
 abbrev carrier : ℕ → List Event
 carrier wr1 = set 0 1 wr1 ++ (SetLines 0 1 0 ∷ [])
 
-pub record Told : Type 0 where
+pub record Told (happens : Happens) : Type 0 where
   -- "Receive is pending by mode if a character waits (mode 1: and armed)"
   pub none-by-mode-0 : reads happens (oneRead 0) 0 0 ≡ 0x45
   pub all-by-mode-3 : reads happens (oneRead 0b11000) 0 0 ≡ 0x47
@@ -48,8 +47,8 @@ pub record Told : Type 0 where
   pub external : reads happens (carrier 1) 0 0 ≡ 0x4E
   pub no-external-without-d0 : reads happens (carrier 0) 0 0 ≡ 0x4C
 
-pub told : Told
-unfolding computing chipBehind times digits
+pub told : Told happens
+unfolding telling
 told = record {
   none-by-mode-0 = refl;
   all-by-mode-3 = refl;

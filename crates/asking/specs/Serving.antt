@@ -2,9 +2,8 @@
 use mathlib.Core.Path.{_≡_, refl}
 use mathlib.Core.List.{List, [], _∷_, _++_}
 use Prim.Native.Nat.{_+_}
-use Rattle.chip.specs.Computing.{computing}
 use Rattle.chip.specs.Event.{Event, SetLines, Acknowledge, Reti}
-use Rattle.tales.specs.Tale.{chipBehind, times, digits, reads, refusal, vector}
+use Rattle.tales.specs.Tale.{Happens, telling, reads, refusal, vector}
 use Rattle.tales.specs.Words.{command, set, writes, ticks, resetStatus, asReti, clearUnderrun}
 use Rattle.tales.specs.Words.{oneStop, sending}
 use Rattle.asking.specs.Happens.{happens}
@@ -27,7 +26,7 @@ bothTaken = bTaken ++ inA ++ (Acknowledge ∷ [])
 abbrev sentTaken : List Event
 sentTaken = sending 0 oneStop ++ set 0 1 0b10 ++ writes 0 0 ++ ticks 0 1 ++ (Acknowledge ∷ [])
 
-pub record Told : Type 0 where
+pub record Told (happens : Happens) : Type 0 where
   -- "Acknowledge puts the highest source in service and leaves it pending"
   pub taken : vector happens inB ≡ 0b0010
   pub left-pending : reads happens sentTaken 0 0 ≡ 0x46
@@ -50,8 +49,8 @@ pub record Told : Type 0 where
   -- "Order: command, D7-6, pointer": D6 is cleared
   pub d6-with-7 : reads happens (command 0 (asReti + clearUnderrun)) 0 0 ≡ 0x04
 
-pub told : Told
-unfolding computing chipBehind times digits
+pub told : Told happens
+unfolding telling
 told = record {
   taken = refl;
   left-pending = refl;

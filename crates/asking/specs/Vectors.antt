@@ -2,11 +2,10 @@
 use mathlib.Core.Path.{_≡_, refl}
 use mathlib.Core.List.{List, [], _∷_, _++_}
 use Prim.Native.Nat.{ℕ}
-use Rattle.chip.specs.Computing.{computing}
 use Rattle.chip.specs.Event.{Event, SetLines, Acknowledge}
-use Rattle.tales.specs.Tale.{chipBehind, times, digits, reads, vector}
-use Rattle.tales.specs.Words.{set, writes, takes, ticks, oneStop, sdlc, hearing}
-use Rattle.tales.specs.Words.{sending, sendEight, char41, frame00}
+use Rattle.tales.specs.Tale.{Happens, telling, reads, vector}
+use Rattle.tales.specs.Words.{set, hears, writes, takes, ticks, oneStop, oddParity, sdlc}
+use Rattle.tales.specs.Words.{hearing, sending, sendEight, char41, frame00}
 use Rattle.asking.specs.Happens.{happens}
 
 -- WR2 = F1, status on: vectors are F1, F3 and so on by bits 3-1
@@ -28,11 +27,15 @@ sent ch wr1 = sending ch oneStop ++ set ch 1 wr1 ++ writes ch 0 ++ ticks ch 1
 abbrev heardFrame : List Event
 heardFrame = hearing 0 sdlc ++ set 0 1 0b11000 ++ frame00 0
 
+-- A hears 41 with a wrong parity bit, odd parity being set, in this receive mode
+abbrev wrongParity : ℕ → List Event
+wrongParity mode = hearing 0 oddParity ++ set 0 1 mode ++ hears 0 11 0b01000001001
+
 -- DCD has gone on
 abbrev carrier : ℕ → ℕ → List Event
 carrier ch wr1 = set ch 1 wr1 ++ (SetLines ch 1 0 ∷ [])
 
-pub record Told : Type 0 where
+pub record Told (happens : Happens) : Type 0 where
   -- "Vector bits 3-1: B transmit 0, external 1, receive 2, special 3; A 4 to 7."
   pub b-transmit : reads happens (vectors ++ sent 1 0b110) 1 2 ≡ 0xF1
   pub b-external : reads happens (vectors ++ carrier 1 0b101) 1 2 ≡ 0xF3
@@ -59,13 +62,16 @@ pub record Told : Type 0 where
   -- "special: .. frame end", good or bad
   pub frame-end :
       reads happens (vectors ++ heardFrame ++ takes 0 2) 1 2 ≡ 0xFF
+  -- "parity in mode 2"
+  pub parity-in-mode-2 : reads happens (vectors ++ wrongParity 0b10000) 1 2 ≡ 0xFF
+  pub no-parity-in-mode-3 : reads happens (vectors ++ wrongParity 0b11000) 1 2 ≡ 0xFD
   -- RR0 "D1 any source pending (A; 0 in B)", in service or not
   pub d1-of-b-in-a : reads happens (carrier 1 0b1) 0 0 ≡ 0x46
   pub no-d1-in-b : reads happens (carrier 1 0b1) 1 0 ≡ 0x4C
   pub d1-in-service : reads happens (carrier 0 0b1 ++ (Acknowledge ∷ [])) 0 0 ≡ 0x4E
 
-pub told : Told
-unfolding computing chipBehind times digits
+pub told : Told happens
+unfolding telling
 told = record {
   b-transmit = refl;
   b-external = refl;
@@ -83,6 +89,8 @@ told = record {
   a-before-b = refl;
   served-shows = refl;
   frame-end = refl;
+  parity-in-mode-2 = refl;
+  no-parity-in-mode-3 = refl;
   d1-of-b-in-a = refl;
   no-d1-in-b = refl;
   d1-in-service = refl;

@@ -5,9 +5,8 @@
 use mathlib.Core.Path.{_≡_, refl}
 use mathlib.Core.List.{List, [], _∷_, _++_}
 use Prim.Native.Nat.{ℕ}
-use Rattle.chip.specs.Computing.{computing}
 use Rattle.chip.specs.Event.{Event, SetLines}
-use Rattle.tales.specs.Tale.{chipBehind, given, times, digits, reads, bytes}
+use Rattle.tales.specs.Tale.{Happens, telling, reads, bytes}
 use Rattle.tales.specs.Words.{command, set, hears, takes, resetStatus, oneStop, twoStops, oddParity}
 use Rattle.tales.specs.Words.{evenParity, hearEight, hearing, char41, cut41, blank, ones}
 use Rattle.hearing.specs.Happens.{happens}
@@ -49,7 +48,7 @@ evenly = hears 0 11 0b01000001001
 abbrev oddly : List Event
 oddly = hears 0 11 0b01000001011
 
-pub record Told : Type 0 where
+pub record Told (happens : Happens) : Type 0 where
   pub eight-bits : bytes happens (hearing 0 oneStop ++ char41 0) 0 1 ≡ 0x41 ∷ []
   -- "Unused high bits read 1; below eight bits a parity bit lies just above the data."; marked
   -- examples 6 and 7
@@ -99,8 +98,8 @@ pub record Told : Type 0 where
       reads happens (set 0 4 oneStop ++ set 0 3 0b11100000 ++ (SetLines 0 1 0 ∷ []) ++ char41 0) 0 0
       ≡ 0x4C
 
-pub told : Told
-unfolding computing chipBehind given times digits
+pub told : Told happens
+unfolding telling
 told = record {
   eight-bits = refl;
   seven-bits = refl;

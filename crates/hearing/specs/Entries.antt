@@ -4,9 +4,8 @@
 -- nothing.
 use mathlib.Core.Path.{_≡_, refl}
 use mathlib.Core.List.{List, [], _∷_, _++_}
-use Rattle.chip.specs.Computing.{computing}
 use Rattle.chip.specs.Event.{Event}
-use Rattle.tales.specs.Tale.{chipBehind, given, times, digits, reads, bytes}
+use Rattle.tales.specs.Tale.{Happens, telling, reads, bytes}
 use Rattle.tales.specs.Words.{command, hears, takes, ones, errorReset, oneStop, oddParity, hearing}
 use Rattle.tales.specs.Words.{char41, cut41}
 use Rattle.hearing.specs.Happens.{happens}
@@ -28,7 +27,7 @@ right = hears 0 11 0b01000001011
 abbrev wrong : List Event
 wrong = hears 0 11 0b01000001001
 
-pub record Told : Type 0 where
+pub record Told (happens : Happens) : Type 0 where
   -- "a fourth replaces the newest and is marked overrun": its own marks stay, the replaced one's go
   pub replaced : bytes happens four 0 3 ≡ 0x41 ∷ 0x42 ∷ 0x44 ∷ []
   pub overrun : reads happens (four ++ takes 0 2) 0 1 ≡ 0x21
@@ -48,8 +47,8 @@ pub record Told : Type 0 where
   pub d6-of-the-oldest :
       reads happens (hearing 0 oneStop ++ cut41 0 ++ ones 0 1 ++ char41 0 ++ takes 0 1) 0 1 ≡ 0x01
 
-pub told : Told
-unfolding computing chipBehind given times digits
+pub told : Told happens
+unfolding telling
 told = record {
   replaced = refl;
   overrun = refl;

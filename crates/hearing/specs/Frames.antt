@@ -3,9 +3,8 @@
 use mathlib.Core.Path.{_≡_, refl}
 use mathlib.Core.List.{List, [], _∷_, _++_}
 use Prim.Native.Nat.{ℕ}
-use Rattle.chip.specs.Computing.{computing}
 use Rattle.chip.specs.Event.{Event}
-use Rattle.tales.specs.Tale.{chipBehind, given, times, digits, reads, bytes}
+use Rattle.tales.specs.Tale.{Happens, telling, reads, bytes}
 use Rattle.tales.specs.Words.{command, set, hears, takes, resetStatus, presetReceived}
 use Rattle.tales.specs.Words.{sdlc, hearEight}
 use Rattle.tales.specs.Words.{hearing, flag, ones, frame00}
@@ -25,6 +24,10 @@ frameFF = hears 0 42 0b011111101111101110000000011111011101111110
 
 abbrev flipped : List Event
 flipped = hears 0 40 0b0111111010000000000111100000111101111110
+
+-- the frame of 00 behind a flag that has come
+abbrev next00 : List Event
+next00 = hears 0 32 0b00000000000111100000111101111110
 
 -- 28 bits of content, and the zero behind five ones, whose remainder is that of a good check
 abbrev stray : List Event
@@ -53,11 +56,15 @@ hunts = 0b11010001
 abbrev huntsOff : ℕ
 huntsOff = 0b11010000
 
-pub record Told : Type 0 where
+pub record Told (happens : Happens) : Type 0 where
   -- "a 0 after five ones is dropped"; "at the flag with the end mark"; marked example 4
   pub values : bytes happens (hearing 0 sdlc ++ frameFF) 0 3 ≡ 0xFF ∷ 0x00 ∷ 0xFF ∷ []
   pub good-end : reads happens (hearing 0 sdlc ++ frameFF ++ takes 0 2) 0 1 ≡ 0x87
   pub bad-end : reads happens (hearing 0 sdlc ++ flipped ++ takes 0 2) 0 1 ≡ 0xC7
+  -- a flag's own bits are no content: the next frame, behind the same flag, has just its bytes
+  pub next-values :
+      bytes happens (hearing 0 sdlc ++ frame00 0 ++ takes 0 3 ++ next00) 0 3
+      ≡ 0x00 ∷ 0x78 ∷ 0xF0 ∷ []
   -- "Stray bits are thrown away and the check is bad."
   pub stray-bad : reads happens (hearing 0 sdlc ++ stray ++ takes 0 2) 0 1 ≡ 0xC7
   -- "Content under eight bits queues nothing."
@@ -103,12 +110,13 @@ pub record Told : Type 0 where
       reads happens (hearing 0 sdlc ++ presetWithin ++ takes 0 2) 0 1
       ≡ 0xC7
 
-pub told : Told
-unfolding computing chipBehind given times digits
+pub told : Told happens
+unfolding telling
 told = record {
   values = refl;
   good-end = refl;
   bad-end = refl;
+  next-values = refl;
   stray-bad = refl;
   under-eight = refl;
   not-yet = refl;

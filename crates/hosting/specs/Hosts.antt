@@ -2,9 +2,8 @@
 use mathlib.Core.Path.{_≡_, refl}
 use mathlib.Core.List.{List, _++_}
 use Prim.Native.Nat.{ℕ}
-use Rattle.chip.specs.Computing.{computing}
 use Rattle.chip.specs.Event.{Event}
-use Rattle.tales.specs.Tale.{chipBehind, given, times, digits, reads, line}
+use Rattle.tales.specs.Tale.{Happens, telling, digits, reads, line}
 use Rattle.tales.specs.Words.{command, hears, writes, takes, ticks, sendAbort, presetSent}
 use Rattle.tales.specs.Words.{clearUnderrun}
 use Rattle.tales.specs.Words.{sdlc, hearing, framing, flag, ones}
@@ -35,7 +34,7 @@ overflown = hearing 0 sdlc ++ flag 0 ++ hears 0 56 0 ++ ones 0 8 ++ flag 0
 abbrev nextNote : List Event
 nextNote = holding 0 ++ ticks 0 40 ++ anew ++ writes 0 0
 
-pub record Told : Type 0 where
+pub record Told (happens : Happens) : Type 0 where
   -- "After mark or abort: flag"
   pub behind-mark : line happens (framing 0) 0 8 ≡ digits 8 0b01111110
   -- "the frame holds just the bytes loaded so far": and this one is loaded
@@ -51,8 +50,8 @@ pub record Told : Type 0 where
   -- "a closing flag opens the next frame"
   pub one-flag : line happens nextNote 0 32 ≡ digits 32 0b00000000000111100000111101111110
 
-pub told : Told
-unfolding computing chipBehind given times digits
+pub told : Told happens
+unfolding telling
 told = record {
   behind-mark = refl;
   ninth-loaded = refl;

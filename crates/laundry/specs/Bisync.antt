@@ -2,9 +2,8 @@
 use mathlib.Core.Path.{_≡_, refl}
 use mathlib.Core.List.{List, [], _∷_, _++_, map}
 use Prim.Native.Nat.{ℕ}
-use Rattle.chip.specs.Computing.{computing}
 use Rattle.chip.specs.Event.{Event}
-use Rattle.tales.specs.Tale.{chipBehind, given, times, digits, line, bytes, reads}
+use Rattle.tales.specs.Tale.{Happens, telling, digits, line, bytes, reads}
 use Rattle.tales.specs.Words.{command, set, hears, resetStatus}
 use Rattle.laundry.specs.Happens.{happens}
 
@@ -29,7 +28,7 @@ stripping = 0b11
 abbrev pair : List Event
 pair = hears 0 8 0b01101000 ++ hears 0 8 0b10101100
 
-pub record Told : Type 0 where
+pub record Told (happens : Happens) : Type 0 where
   -- "WR6 then WR7", and again: a sync is the two of them
   pub sent :
       line happens sends 0 24
@@ -44,6 +43,6 @@ pub record Told : Type 0 where
       bytes happens (listening stripping ++ (pair ++ (pair ++ hears 0 8 0b10101100))) 0 1
       ≡ 0x35 ∷ []
 
-pub told : Told
-unfolding computing chipBehind given times digits
+pub told : Told happens
+unfolding telling
 told = record { sent = refl; found = refl; half = refl; turned = refl; in-turn = refl }

@@ -3,3 +3,4 @@ pub mod Happens
 pub mod Sending
 pub mod Bisync
 pub mod Receiving
+pub mod Wrong

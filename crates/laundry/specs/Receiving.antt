@@ -5,9 +5,8 @@
 use mathlib.Core.Path.{_≡_, refl}
 use mathlib.Core.List.{List, [], _∷_, _++_, map}
 use Prim.Native.Nat.{ℕ}
-use Rattle.chip.specs.Computing.{computing}
 use Rattle.chip.specs.Event.{Event}
-use Rattle.tales.specs.Tale.{chipBehind, given, times, digits, bytes, reads}
+use Rattle.tales.specs.Tale.{Happens, telling, bytes, reads}
 use Rattle.tales.specs.Words.{command, set, hears, takes, presetReceived, resetStatus}
 use Rattle.laundry.specs.Happens.{happens}
 
@@ -39,7 +38,7 @@ whole =
     sync ++ (hears 0 16 0b1000001000000011 ++ (takes 0 2
     ++ (hears 0 16 0b0000110011111111 ++ takes 0 2)))
 
-pub record Told : Type 0 where
+pub record Told (happens : Happens) : Type 0 where
   -- "D6 is then 1 exactly while that check is not zero": 0 when the pad is complete, with nothing
   -- waiting
   pub good : reads happens (listening checking ++ whole) 0 1 ≡ 0x01
@@ -75,8 +74,8 @@ pub record Told : Type 0 where
       ++ (command 0 resetStatus ++ (set 0 4 0b10000 ++ command 0 resetStatus))))) 0 0
       ≡ 0x54
 
-pub told : Told
-unfolding computing chipBehind given times digits
+pub told : Told happens
+unfolding telling
 told = record {
   good = refl;
   spoilt = refl;

@@ -4,9 +4,8 @@
 use mathlib.Core.Path.{_≡_, refl}
 use mathlib.Core.List.{List, [], _∷_, _++_, map}
 use Prim.Native.Nat.{ℕ}
-use Rattle.chip.specs.Computing.{computing}
 use Rattle.chip.specs.Event.{Event}
-use Rattle.tales.specs.Tale.{chipBehind, given, times, digits, line, reads}
+use Rattle.tales.specs.Tale.{Happens, telling, digits, line, reads}
 use Rattle.tales.specs.Words.{command, set, writes, ticks, presetSent, clearUnderrun, resetStatus}
 use Rattle.laundry.specs.Happens.{happens}
 
@@ -23,7 +22,7 @@ cleared =
 abbrev one : List Event
 one = ticks 0 8 ++ writes 0 0x41
 
-pub record Told : Type 0 where
+pub record Told (happens : Happens) : Type 0 where
   -- "Monosync sends WR6"
   pub sync : line happens cleared 0 8 ≡ digits 8 0b01101000
   -- "before them the check": CRC-16 of 41 from zeros is 30C0, and goes out as C0 30; a sync behind
@@ -38,8 +37,8 @@ pub record Told : Type 0 where
   pub latch-clear : reads happens (cleared ++ (one ++ ticks 0 8)) 0 0 ≡ 0x14
   pub latch-set : reads happens (cleared ++ (one ++ ticks 0 9)) 0 0 ≡ 0x50
 
-pub told : Told
-unfolding computing chipBehind given times digits
+pub told : Told happens
+unfolding telling
 told = record {
   sync = refl;
   checked = refl;

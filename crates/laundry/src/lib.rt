@@ -1,1 +1,1 @@
-//! No code to run: specs/ holds tales of Monosync and Bisync, computed, and must-fail the wrong chips that they refuse.
+//! No code to run: specs/ holds tales of Monosync and Bisync, computed, which no wrong chip tells.

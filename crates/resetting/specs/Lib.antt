@@ -1,3 +1,4 @@
 pub mod Happens
 pub mod Resets
 pub mod Modes
+pub mod Wrong

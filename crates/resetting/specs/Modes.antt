@@ -4,9 +4,8 @@
 -- what no word names is kept. Assumes nothing.
 use mathlib.Core.Path.{_≡_, refl}
 use mathlib.Core.List.{List, [], _∷_, _++_}
-use Rattle.chip.specs.Computing.{computing}
 use Rattle.chip.specs.Event.{Event}
-use Rattle.tales.specs.Tale.{chipBehind, given, times, digits, reads, line}
+use Rattle.tales.specs.Tale.{Happens, telling, digits, reads, line}
 use Rattle.tales.specs.Words.{command, set, hears, writes, takes, ticks, ones, resetStatus}
 use Rattle.tales.specs.Words.{clearUnderrun, oneStop, oddParity, sdlc, hearEight, hearing, sending}
 use Rattle.tales.specs.Words.{framing, char41, cut41, blank}
@@ -41,10 +40,12 @@ firstRead = hearing 0 oneStop ++ set 0 1 0b1000 ++ char41 0 ++ char41 0 ++ takes
 abbrev wrongParity : List Event
 wrongParity = hearing 0 oddParity ++ hears 0 11 0b01000001001
 
-pub record Told : Type 0 where
+pub record Told (happens : Happens) : Type 0 where
   -- "An accepted WR4 that changes the mode": the same mode again, with other parity, cuts nothing
   pub same-mode : reads happens (begun ++ set 0 4 oneStop) 0 1 ≡ 0x00
   pub same-but-parity : reads happens (begun ++ set 0 4 oddParity) 0 1 ≡ 0x00
+  -- a refused one changes nothing, "the register pointer included": the byte behind it is WR4 again
+  pub pointer-stays : reads happens (set 0 4 0xFF ++ command 0 sdlc) 0 0 ≡ 0x54
   -- "idles the sender as after a mark": no character is under way; no zero is owed, a flag begins
   pub idled : reads happens (begun ++ viaSdlc) 0 1 ≡ 0x01
   pub nothing-owed :
@@ -82,11 +83,12 @@ pub record Told : Type 0 where
   pub loads-nothing : reads happens (set 0 5 0b01111001 ++ writes 0 0 ++ ticks 0 2) 0 0 ≡ 0x40
   pub hears-nothing : reads happens (set 0 3 hearEight ++ char41 0) 0 0 ≡ 0x44
 
-pub told : Told
-unfolding computing chipBehind given times digits
+pub told : Told happens
+unfolding telling
 told = record {
   same-mode = refl;
   same-but-parity = refl;
+  pointer-stays = refl;
   idled = refl;
   nothing-owed = refl;
   buffer-kept = refl;

@@ -6,9 +6,8 @@ use mathlib.Core.Path.{_≡_, refl}
 use mathlib.Core.List.{List, [], _∷_, _++_}
 use Prim.Native.Nat.{ℕ}
 use Rattle.channel.specs.declared.Answer.the-variants.{Gave}
-use Rattle.chip.specs.Computing.{computing}
 use Rattle.chip.specs.Event.{Event, HardReset, ControlRead, SetLines, Acknowledge}
-use Rattle.tales.specs.Tale.{chipBehind, given, times, digits, answers, refusal, reads, line}
+use Rattle.tales.specs.Tale.{Happens, telling, digits, answers, refusal, reads, line}
 use Rattle.tales.specs.Words.{command, set, hears, writes, takes, ticks, channelReset, resetStatus}
 use Rattle.tales.specs.Words.{clearUnderrun, oneStop, oddParity, sdlc, hearEight, sendEight}
 use Rattle.tales.specs.Words.{hearing, sending, framing, char41, blank, flag, frame00}
@@ -36,7 +35,7 @@ checked = framing 0 ++ writes 0 0 ++ ticks 0 16
 abbrev taken : ℕ → List Event
 taken ch = set ch 1 0b1 ++ (SetLines ch 1 0 ∷ Acknowledge ∷ [])
 
-pub record Told : Type 0 where
+pub record Told (happens : Happens) : Type 0 where
   -- "zeroes the WRs": no external interrupt, receiver off, sender off, address 0, vector 0
   pub wr1-zero : reads happens (set 0 1 0b1 ++ reset ++ (SetLines 0 1 0 ∷ [])) 0 0 ≡ 0x4C
   pub wr3-zero :
@@ -84,8 +83,8 @@ pub record Told : Type 0 where
   pub b-too :
       reads happens (command 1 clearUnderrun ++ (SetLines 1 1 1 ∷ HardReset ∷ [])) 1 0 ≡ 0x44
 
-pub told : Told
-unfolding computing chipBehind given times digits
+pub told : Told happens
+unfolding telling
 told = record {
   wr1-zero = refl;
   wr3-zero = refl;

@@ -5,11 +5,10 @@
 use mathlib.Core.Path.{_≡_, refl}
 use mathlib.Core.List.{List, [], _∷_, _++_}
 use Prim.Native.Nat.{ℕ}
-use Rattle.chip.specs.Computing.{computing}
 use Rattle.chip.specs.Event.{Event, SetLines}
-use Rattle.tales.specs.Tale.{chipBehind, given, times, digits, reads, line}
+use Rattle.tales.specs.Tale.{Happens, telling, digits, reads, line}
 use Rattle.tales.specs.Words.{set, writes, ticks, oneStop, twoStops, oddParity}
-use Rattle.tales.specs.Words.{evenParity, sendEight}
+use Rattle.tales.specs.Words.{evenParity, sdlc, sendEight}
 use Rattle.speaking.specs.Happens.{happens}
 
 -- A is set so, by WR4 and WR5, and given this byte
@@ -37,7 +36,7 @@ broken = 0b01111000
 abbrev enables : List Event
 enables = set 0 3 0b00100000
 
-pub record Told : Type 0 where
+pub record Told (happens : Happens) : Type 0 where
   -- "start 0, the low bits, parity, stop ones"; marked example 5
   pub eight-bits : line happens (sends oneStop sendEight 0x41) 0 11 ≡ digits 11 0b01000001011
   pub seven-bits : line happens (sends oneStop seven 0x3F) 0 10 ≡ digits 10 0b0111111011
@@ -68,6 +67,8 @@ pub record Told : Type 0 where
   pub not-sent : reads happens (sends oneStop sendEight 0) 0 1 ≡ 0x00
   pub under-way : reads happens (sends oneStop sendEight 0 ++ ticks 0 9) 0 1 ≡ 0x00
   pub all-sent : reads happens (sends oneStop sendEight 0 ++ ticks 0 10) 0 1 ≡ 0x01
+  -- "Events on B never change A's .., nor the reverse": B has no mode, and its byte is not sent
+  pub byte-in-b : reads happens (set 0 4 sdlc ++ writes 1 7) 1 1 ≡ 0x00
   -- "Break sends 0 in place of each bit while the steps go on.": off or on
   pub break-off : line happens (set 0 4 oneStop ++ set 0 5 0b00010000) 0 2 ≡ 0 ∷ 0 ∷ []
   pub break-goes-on :
@@ -80,8 +81,8 @@ pub record Told : Type 0 where
   pub cts-alone :
       line happens (enables ++ (SetLines 0 0 1 ∷ []) ++ sends oneStop off 0) 0 1 ≡ 1 ∷ []
 
-pub told : Told
-unfolding computing chipBehind given times digits
+pub told : Told happens
+unfolding telling
 told = record {
   eight-bits = refl;
   seven-bits = refl;
@@ -100,6 +101,7 @@ told = record {
   not-sent = refl;
   under-way = refl;
   all-sent = refl;
+  byte-in-b = refl;
   break-off = refl;
   break-goes-on = refl;
   no-cts = refl;

@@ -3,9 +3,8 @@
 use mathlib.Core.Path.{_≡_, refl}
 use mathlib.Core.List.{List, [], _∷_, _++_}
 use Prim.Native.Nat.{ℕ}
-use Rattle.chip.specs.Computing.{computing}
 use Rattle.chip.specs.Event.{Event}
-use Rattle.tales.specs.Tale.{chipBehind, given, times, digits, reads, line}
+use Rattle.tales.specs.Tale.{Happens, telling, digits, reads, line}
 use Rattle.tales.specs.Words.{command, set, writes, ticks, sendAbort, resetStatus, presetSent}
 use Rattle.tales.specs.Words.{clearUnderrun, sdlc, sendEight, sendChecked, framing}
 use Rattle.speaking.specs.Happens.{happens}
@@ -42,7 +41,7 @@ off = set 0 5 0b01100001
 abbrev broken : List Event
 broken = set 0 5 0b01111001
 
-pub record Told : Type 0 where
+pub record Told (happens : Happens) : Type 0 where
   -- marked examples 1 to 3: "mark (1 tick), flag, byte (low bit first), check (16)", the zero
   -- that is owed "sent next, even before the flag"
   pub byte-00 :
@@ -92,13 +91,16 @@ pub record Told : Type 0 where
   -- "Send Abort (SDLC, on, no abort under way; else nothing)": "A unit is under way until the next
   -- one's first bit"
   pub aborted : line happens (sent ++ command 0 sendAbort) 0 16 ≡ digits 16 0b1111111101111110
+  -- and drops the byte in the buffer: RR0 D2
+  pub buffer-dropped :
+      reads happens (holding 0 ++ ticks 0 9 ++ writes 0 0 ++ command 0 sendAbort) 0 0 ≡ 0x54
   pub abort-once :
       line happens (sent ++ command 0 sendAbort ++ ticks 0 8 ++ command 0 sendAbort) 0 8 ≡ flagBits
   pub no-abort-off :
       reads happens (framing 0 ++ off ++ command 0 sendAbort ++ command 0 resetStatus) 0 0 ≡ 0x14
 
-pub told : Told
-unfolding computing chipBehind given times digits
+pub told : Told happens
+unfolding telling
 told = record {
   byte-00 = refl;
   byte-ff = refl;
@@ -121,6 +123,7 @@ told = record {
   broken-flag = refl;
   counted-on = refl;
   aborted = refl;
+  buffer-dropped = refl;
   abort-once = refl;
   no-abort-off = refl;
 }

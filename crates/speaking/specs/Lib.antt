@@ -1,3 +1,4 @@
 pub mod Happens
 pub mod Characters
 pub mod Frames
+pub mod Wrong

@@ -5,4 +5,3 @@ pub mod Received
 pub mod Sending
 pub mod Receiving
 pub mod Calls
-pub mod Clerk

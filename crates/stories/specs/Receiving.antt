@@ -2,10 +2,10 @@
 -- ends, good", with other events behind every bit, and the same with a bit flipped. Each is told by
 -- the chip and by no wrong one of must-fail. Assumes nothing.
 use mathlib.Core.Path.{_≡_, refl}
-use mathlib.Core.Bool.{Bool, true, false}
+use mathlib.Core.Bool.{Bool, false}
 use mathlib.Core.List.{List, [], _∷_, _++_}
 use lib.ListN.{drop}
-use Rattle.line.specs.Bits.{oneIf, lowBits}
+use Rattle.line.specs.Bits.{oneIf}
 use Rattle.line.specs.Insertion.{stuff}
 use Rattle.line.specs.Frame.{flagBits, contentOf, frame}
 use Rattle.channel.specs.declared.Answer.the-variants.{Gave}
@@ -15,7 +15,7 @@ use Rattle.chip.specs.Chip.{hardReset}
 use Rattle.chip.specs.Event.{Event, ControlWrite, ControlRead, DataWrite, DataRead, Transmit}
 use Rattle.chip.specs.Event.{Receive, SetLines, Acknowledge, Reti}
 use Rattle.stories.specs.Story.{Which, A, number, happens, after}
-use Rattle.stories.specs.Received.{bitsOf, valuesOf, goodEnd, badEnd, noEnd}
+use Rattle.stories.specs.Received.{bitsOf, valuesOf, goodEnd, badEnd}
 
 -- from a hard reset: WR4 for SDLC, WR3 on
 abbrev pub listening : Which → Chip
@@ -64,22 +64,10 @@ twoFrames =
     (flagBits ++ (stuff 0 (contentOf (0xFF ∷ []))
     ++ (flagBits ++ (stuff 0 (contentOf (0x00 ∷ [])) ++ flagBits))))
 
--- asynchronous, seven bits, odd parity: 41 with its parity bit, which is 1, and RR1
-abbrev pub sevenOdd : List Event
-sevenOdd =
-    ControlWrite 0 4 ∷ ControlWrite 0 0b101 ∷ ControlWrite 0 3 ∷ ControlWrite 0 0b1000001 ∷ []
-
-abbrev pub character : List Bool
-character = false ∷ (lowBits 7 0x41 ++ (true ∷ true ∷ []))
-
 pub record Told : Type 0 where
   pub noisy-bits : bitsOf A noisy ≡ frame (0xFF ∷ [])
   pub noisy-values : valuesOf A (listening A) noisy ≡ 0xFF ∷ 0x00 ∷ 0xFF ∷ []
   pub two-values : valuesOf A (listening A) twoFrames ≡ 0xFF ∷ 0x00 ∷ 0xFF ∷ 0x00 ∷ 0x78 ∷ 0xF0 ∷ []
-  -- two ones and the parity bit are odd in number: no parity error, and all is sent
-  pub right-parity : happens
-      (after (after hardReset sevenOdd) (story A [] character ++ (ControlWrite 0 1 ∷ [])))
-      (ControlRead 0) .answer ≡ Gave noEnd
   -- RR1 shows the mark of the last one when the two before it are read
   pub mark : happens (after (listening A) named) (ControlRead 0) .answer ≡ Gave goodEnd
   pub flipped-mark : happens (after (listening A) (story A [] flippedLine ++ nameLast))
@@ -91,7 +79,6 @@ told = record {
   noisy-bits = refl;
   noisy-values = refl;
   two-values = refl;
-  right-parity = refl;
   mark = refl;
   flipped-mark = refl;
 }

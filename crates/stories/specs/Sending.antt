@@ -18,7 +18,7 @@ use Rattle.chip.specs.Event.{Event, ControlWrite, ControlRead, DataWrite, DataR
 use Rattle.chip.specs.Event.{Receive, SetLines, Acknowledge, Reti}
 use Rattle.whole.specs.Start.{flagHead}
 use Rattle.stories.specs.Story.{A, happens, after}
-use Rattle.stories.specs.Sent.{lineOf, ticks, d6, d2, resetStatus}
+use Rattle.stories.specs.Sent.{lineOf, ticks, d6, resetStatus}
 
 unfoldable pub times : ℕ → List Event → List Event
 times zero es = []
@@ -85,10 +85,6 @@ sendAbort = 0b1000
 abbrev pub gone : List Event
 gone = DataWrite 0 3 ∷ times 16 tick
 
--- a byte waits behind the one under way when Send Abort comes
-abbrev pub waiting : Chip
-waiting = after begin (DataWrite 0 1 ∷ (times 9 tick ++ (DataWrite 0 2 ∷ [])))
-
 -- F8 has gone out to its last bit, its five ones owe a zero, and the sender is switched off
 abbrev pub owing : Chip
 owing =
@@ -111,10 +107,9 @@ pub record Told : Type 0 where
   -- this one's
   pub check-runs-on : lineOf A (after begin whole) unpreset
       ≡ stuff 0 (noteBits (0 ∷ []) ++ checkBits (checkOf (0 ∷ 0 ∷ []))) ++ flagBits
-  -- an abort: eight ones and a flag
-  pub buffer-dropped : d2 A (happens waiting (ControlWrite 0 sendAbort) .chip) ≡ true
   -- off: the zero that is owed goes out before the mark
   pub owed-first : lineOf A owing (times 3 tick) ≡ false ∷ true ∷ true ∷ []
+  -- an abort: eight ones and a flag
   pub aborted-line : lineOf A begin (begun ++ (ControlWrite 0 sendAbort ∷ gone))
       ≡ lineOf A begin begun ++ (replicate 8 true ++ flagBits)
 
@@ -130,7 +125,6 @@ told = record {
   held-back = refl;
   shown-afresh = refl;
   check-runs-on = refl;
-  buffer-dropped = refl;
   owed-first = refl;
   aborted-line = refl;
 }

@@ -63,10 +63,6 @@ ticks w (e ∷ st) = oneIf (isTick w e) + ticks w st
 abbrev pub d6 : Which → Chip → Bool
 d6 w c = odd (answerValue (happens c (ControlRead (number w)) .answer) / 64)
 
--- RR0 D2, "transmit buffer empty and no check being sent"
-abbrev pub d2 : Which → Chip → Bool
-d2 w c = odd (answerValue (happens c (ControlRead (number w)) .answer) / 4)
-
 -- WR0, "D5-3 command: .. 2 Reset External/Status", which shows D6 as it now is
 abbrev pub resetStatus : ℕ
 resetStatus = 0b10000

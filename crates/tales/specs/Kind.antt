@@ -1,9 +1,9 @@
 -- What an event is, told by numbers and tests, for the making of wrong chips. Assumes nothing.
 use mathlib.Core.Bool.{Bool, not, _&&_}
 use Prim.Native.Nat.{ℕ}
-use lib.Dec.{eqb}
+use lib.Dec.{eqb, ltb}
 use Rattle.common.specs.Mode.{sameMode}
-use Rattle.settings.specs.Settings.{commandIn, presetIn, modeIn}
+use Rattle.settings.specs.Settings.{commandIn, presetIn, modeIn, receivingOf}
 use Rattle.channel.specs.declared.Channel.{Channel}
 use Rattle.chip.specs.Event.{Event, HardReset, ControlWrite, ControlRead, DataWrite, DataRead}
 use Rattle.chip.specs.Event.{Transmit, Receive, SetLines, Acknowledge, Reti}
@@ -100,3 +100,15 @@ abbrev pub isChange : ℕ → Channel → Event → Channel → Bool
 isChange ch was e is =
     isWrite ch 4 was e
     && not (sameMode (modeIn (was .registers)) (modeIn (is .registers)))
+
+-- a tick that loaded a byte or a character of a channel
+abbrev pub isLoad : ℕ → Channel → Event → Channel → Bool
+isLoad ch was e is =
+    isTick ch e && (was .sender .shared .full && not (is .sender .shared .full))
+
+-- a bit that found a channel's receiver off; and one that queued an entry
+abbrev pub isDeaf : ℕ → Channel → Event → Bool
+isDeaf ch was e = isBit ch e && not (receivingOf (was .registers) (was .lines) .on)
+
+abbrev pub isQueued : ℕ → Channel → Event → Channel → Bool
+isQueued ch was e is = isBit ch e && ltb (was .queue .count) (is .queue .count)

@@ -3,3 +3,4 @@ pub mod Words
 pub mod Kind
 pub mod Parts
 pub mod Wrong
+pub mod Refused

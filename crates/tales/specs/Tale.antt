@@ -1,12 +1,13 @@
 -- How a tale is told: events happen to a chip from a hard reset on, and then something is asked of
--- it and compared. What an event does is handed in, so that a crate of tales names it once and an
--- edit can put a wrong chip there. Assumes nothing.
+-- it and compared. What an event does is handed in, so that a wrong chip can be asked too. Assumes
+-- nothing.
 use mathlib.Core.List.{List, [], _∷_, _++_}
 use Prim.Native.Nat.{ℕ, zero, suc, _/_, _%_}
 use Rattle.channel.specs.declared.Answer.{Answer}
 use Rattle.channel.specs.Answer.{answerNumber, answerValue}
 use Rattle.chip.specs.declared.Chip.{Chip}
 use Rattle.chip.specs.declared.Outcome.{Outcome}
+use Rattle.chip.specs.Computing.{computing}
 use Rattle.chip.specs.Chip.{hardReset}
 use Rattle.chip.specs.Event.{Event, ControlWrite, ControlRead, DataRead, Transmit, Acknowledge}
 
@@ -55,3 +56,8 @@ bytes h tale ch n = given h (chipBehind h hardReset tale) (times n (DataRead ch)
 unfoldable pub digits : ℕ → ℕ → List ℕ
 digits zero v = []
 digits (suc n) v = digits n (v / 2) ++ (v % 2 ∷ [])
+
+-- all that a tale is computed by, opened together
+unfoldable pub telling : ℕ
+unfolding computing chipBehind given times digits
+telling = 0

@@ -1,0 +1,5 @@
+-- Wrong chips, and the sentence of a tale that each gets wrong. Assumes nothing.
+pub mod Characters
+pub mod Entries
+pub mod Reads
+pub mod Frames

@@ -1,0 +1,2 @@
+-- Wrong chips, and the sentence of a tale that each gets wrong. Assumes nothing.
+pub mod Hosts
