@@ -5,7 +5,7 @@ ghost use mathlib.Core.Path.{_≡_};
 ghost use Rattle.drive.specs.Drive.{controlA, lookA, writeA};
 
 // The channel that a station drives.
-pub(crate) const CHANNEL_A: u8 = 0;
+const CHANNEL_A: u8 = 0;
 
 // WR0: a command in D5-3, a preset or clearing in D7-6.
 pub(crate) const SEND_ABORT: u8 = 8 * Channel::SEND_ABORT;

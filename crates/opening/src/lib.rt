@@ -4,7 +4,6 @@ mod calling;
 mod putback;
 mod ready;
 
-use crate::calling::CHANNEL_A;
 use crate::calling::CLEAR_LATCH;
 use crate::calling::PRESET_CHECK;
 use crate::calling::control;
@@ -21,14 +20,15 @@ ghost use Prim.Native.Nat.{_<_};
 ghost use Rattle.drive.specs.Drive.{driven, ticksToFlag, flagEnded, frameOpened};
 ghost use Rattle.drive.specs.Framer.{chipWith};
 
-// So many transmit ticks, with nothing to write.
+// So many transmit ticks, with nothing to write, by the channel's own method: a station ticks no other channel.
 pub fn ticked(mut c: Chip, n: usize) -> Chip
     ensures { λ r. ⌜ r ≡ driven n c [] ⌝ }
 {
     let mut left = n;
     while 0 < left {
-        let o = c.transmit(CHANNEL_A);
-        c = o.chip;
+        let o = c.a.transmit_tick();
+        let a = o.channel;
+        c.a = a;
         left = left - 1;
     }
     c

@@ -3,6 +3,7 @@
 use mathlib.Core.Path.{_≡_, refl, sym, _∙_}
 use mathlib.Core.List.{[]}
 use native.Mathlib.Omega.{arith}
+use Rattle.chip.specs.Chip.{transmitCall}
 use Rattle.drive.specs.Drive.{tickA, driven}
 use Rattle.drive.specs.Laws.Frame.{driven-step, driven-none}
 use borrow.Author.Needs.{needs}
@@ -18,8 +19,8 @@ abbrev μ-loop : tie.MeasureT-loop
 loop-holds : tie.Need-loop-holds Inv-loop μ-loop
 loop-holds c = refl
 
-transmit-requires : tie.Need-transmit-requires Inv-loop μ-loop
-transmit-requires c κs = search needs
+transmit-tick-requires : tie.Need-transmit-tick-requires Inv-loop μ-loop
+transmit-tick-requires c κs = search needs
 
 sub-left : tie.Need-sub-left Inv-loop μ-loop
 sub-left c = omega arith
@@ -28,10 +29,10 @@ loop-less : tie.Need-loop-less Inv-loop μ-loop
 loop-less c = omega arith
 
 loop-again : tie.Need-loop-again Inv-loop μ-loop
-unfolding tickA
+unfolding tickA transmitCall
 loop-again c =
     let l = c .before .before .before .loop in
-    rw (c .before .transmit .ensures) (sym (driven-step (l .left) (l .c) (c .before .before .loop-test .taken)) ∙ l .inv)
+    simp (c .before .transmit-tick .ensures) (sym (driven-step (l .left) (l .c) (c .before .before .loop-test .taken)) ∙ l .inv)
 
 returns : tie.Need-returns Inv-loop μ-loop
 returns c =
@@ -39,4 +40,4 @@ returns c =
 
 pub ticked-spec : {M : Type 1} → statement M
 ticked-spec =
-    tie.close (tie.spec Inv-loop μ-loop loop-holds transmit-requires sub-left loop-less loop-again returns)
+    tie.close (tie.spec Inv-loop μ-loop loop-holds transmit-tick-requires sub-left loop-less loop-again returns)
