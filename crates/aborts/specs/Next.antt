@@ -29,8 +29,8 @@ use Rattle.history.specs.Sending.Side.{heeded, good, good-of, SenderSide, side,
 use Rattle.history.specs.Sending.Events.{tickedOf, tick-side, tick-bit, skip-line, write-side}
 use Rattle.history.specs.Sending.Events.{write-no-tick, line-length}
 use Rattle.sending.specs.Chain.{mode-in, write-preset, write-clear}
-use Rattle.hosts.specs.Loaded.{senderOf, loaded, onMore, passed, flags, closed, Host, rests, still}
-use Rattle.hosts.specs.Loaded.{writes, ticking, byteIf}
+use Rattle.hosts.specs.Loaded.{senderOf, loaded, onMore, passed, flags, closed, Host, byteIf}
+use Rattle.history.specs.Sending.Stories.{ended, still, writes, ticking}
 use Rattle.hosts.specs.Steps.{ahead, opening}
 use Rattle.hosts.specs.Line.{skip-loaded, skip-passed, tick-loaded, tick-passed, kept, ended-none}
 use Rattle.hosts.specs.Line.{flags-swap}
@@ -72,7 +72,7 @@ frame-is bytes = refl
 follow : (w : Which) {c : Chip} {ys : List Event} → Host w c ys → (k r b : ℕ) (f : Bool)
     → sideOf w c ≡ side (cutOff k r b f) good → Rest w c ys k
 unfolding lineOf after loaded passed flags
-follow w rests k r b f e = record {
+follow w ended k r b f e = record {
   rest = replicate k true ++ frame [];
   whole = refl;
   none = λ z. void (sym (ap (λ (x : SenderSide). frameEnded (x .sender)) e) ∙ z);

@@ -28,7 +28,7 @@ use Rattle.history.specs.Sending.Events.{skip-ticks}
 use Rattle.timely.specs.Start.{start-side}
 use Rattle.timely.specs.InTime.{InTime, over, still, writes, next-frame, ticking}
 use Rattle.hosts.specs.Loaded.{senderOf, leaves, loaded, idles, onMore, passed, Host}
-use Rattle.hosts.specs.Loaded as hosts
+use Rattle.history.specs.Sending.Stories as hosts
 use Rattle.hosts.specs.Steps.{Going, meant, steps}
 use Rattle.hosts.specs.Steps as steps
 use Rattle.punctual.specs.Statement.{InTimeLoads}
@@ -125,7 +125,7 @@ loads w (over {n = n}) s e g l = record {
   since = n;
   there = e;
   stage = g;
-  host = hosts.rests;
+  host = hosts.ended;
   none = refl;
   bytes = refl;
   short = omega arith;

@@ -16,6 +16,7 @@ use Rattle.whole.specs.Start.{flagHead}
 use Rattle.stories.specs.Story.{Which, number, chan, happens, after}
 use Rattle.stories.specs.Sent.{Else, toSender, lineOf, ticks, d6, resetStatus}
 use Rattle.history.specs.Sending.Side.{sendingIn, sideOf, fullOf, latchOf}
+use Rattle.history.specs.Sending.Stories.{TicksWhere}
 use Rattle.timely.specs.Start.{Start}
 use Rattle.timely.specs.InTime.{InTime}
 use Rattle.timely.specs.Free.{Free}
@@ -120,17 +121,11 @@ ResetShows =
 -- The same for every story of a host that ticks and writes as it likes and whose status is not
 -- latched at a tick while the latch is clear: as long as it reads D6 as 0, no bit of a check and
 -- none of a closing flag has gone out
-pub data Watched (w : Which) : Chip → List Event → Type 0 where
-  ended : {c : Chip} → Watched w c []
-  still : {c : Chip} {e : Event} {st : List Event} → toSender w e ≡ Else
-      → sideOf w (happens c e .chip) ≡ sideOf w c → Watched w (happens c e .chip) st
-      → Watched w c (e ∷ st)
-  writes : {c : Chip} {v : ℕ} {st : List Event}
-      → Watched w (happens c (DataWrite (number w) v) .chip) st
-      → Watched w c (DataWrite (number w) v ∷ st)
-  ticking : {c : Chip} {st : List Event} → (latchOf w c ≡ false → statusLatched w c ≡ false)
-      → Watched w (happens c (Transmit (number w)) .chip) st
-      → Watched w c (Transmit (number w) ∷ st)
+abbrev pub Seeing : Which → Chip → Type 0
+Seeing w c = latchOf w c ≡ false → statusLatched w c ≡ false
+
+abbrev pub Watched : Which → Chip → List Event → Type 0
+Watched w c st = TicksWhere (Seeing w) w c st
 
 abbrev pub NotClosed : Which → Chip → Type 0
 NotClosed w c = (latchOf w c ≡ false) × (opens (chan w c .sender .unit) ≡ true)
