@@ -107,11 +107,11 @@ pub record Steps (s : Framer) : Type 0 where
 
 -- A tick that leaves the buffer and the latch as they are, and lets no flag pass
 
-none-leaves : (full : Bool) (b : ℕ) → byteIf (full && not full) b ≡ []
+pub none-leaves : (full : Bool) (b : ℕ) → byteIf (full && not full) b ≡ []
 none-leaves true b = refl
 none-leaves false b = refl
 
-none-passes : (latch full over : Bool) → (latch ≡ false → over ≡ false)
+pub none-passes : (latch full over : Bool) → (latch ≡ false → over ≡ false)
     → not latch && (not full && over) ≡ false
 none-passes true full over h = refl
 none-passes false true over h = refl
