@@ -26,7 +26,7 @@ use Rattle.history.specs.Receiving.Side as receiving
 use Rattle.history.specs.Receiving.Events.{Hearing}
 use Rattle.history.specs.Receiving.Stories.{HearsWhere}
 use Rattle.timely.specs.Start.{Start}
-use Rattle.sending.specs.Statement.{anew}
+use Rattle.history.specs.Sending.Stories.{anew}
 use Rattle.hosts.specs.Loaded.{loaded, passed, flags, closed, Host}
 
 -- "An abort during that flag or later": Send Abort is a write to WR0 with command 1

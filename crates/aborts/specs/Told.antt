@@ -8,7 +8,6 @@ use native.Mathlib.Omega.{arith}
 use lib.Dec.{eqb, ltb, eqb·suc-zero}
 use lib.ListN.{take, set, getD}
 use borrow.Author.Tests.{ne-eqb}
-use Rattle.common.specs.Choice.{if_then_else_}
 use Rattle.common.specs.Tools.{by-test}
 use Rattle.line.specs.Bits.{oneIf}
 use Rattle.entry.specs.declared.Entry.{Entry}
@@ -16,7 +15,6 @@ use Rattle.entry.specs.Entry.{noEntry, overran}
 use Rattle.queue.specs.declared.Queue.{Queue}
 use Rattle.queue.specs.Queue.{room, newest, queue, movedUp, pushed, taken, oldest, waits}
 use Rattle.queue.specs.Holding.{entryIf}
-use Rattle.sdlc.specs.declared.Listened.{Listened}
 use Rattle.sdlc.specs.Hearing.{hearSdlc}
 use Rattle.chip.specs.declared.Chip.{Chip}
 use Rattle.chip.specs.Event.{Event}

@@ -19,7 +19,8 @@ use Rattle.shared.specs.Shared.{shared}
 use Rattle.bytesync.specs.declared.Syncs.{Syncs}
 use Rattle.bytesync.specs.declared.BlockUnit.the-variants.{Sync}
 use Rattle.bytesync.specs.declared.Syncing.{Syncing}
-use Rattle.blocks.specs.Come.{Sends, syncBits, behind, closed, waiting, toCome, Stage, atMark}
+use Rattle.whole.specs.Come.{waiting}
+use Rattle.blocks.specs.Come.{Sends, syncBits, behind, closed, toCome, Stage, atMark}
 use Rattle.blocks.specs.Come.{opening, inByte, inCheck, inTail, closing, syncLength, syncHead}
 use Rattle.blocks.specs.Laws.Sent.{sync-length, closed-length}
 use Rattle.sender.specs.declared.Sender.{Sender}
@@ -39,7 +40,8 @@ use Rattle.stories.specs.Sent.{ticks}
 use Rattle.history.specs.Sending.Side.{sendingIn}
 use Rattle.dispatch.specs.Side.{Heeded, heeded, Good, SenderSide, sideOf}
 use Rattle.dispatch.specs.Side.{syncingOf}
-use Rattle.dispatch.specs.Statement.{syncsOf, Start, blockTicks, anew, NextBlock}
+use Rattle.history.specs.Sending.Stories.{anew}
+use Rattle.dispatch.specs.Statement.{syncsOf, Start, blockTicks, NextBlock}
 use Rattle.dispatch.specs.Block.{kept, all-come}
 
 -- Where nothing is to come the closing sync has ended

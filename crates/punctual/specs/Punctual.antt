@@ -14,13 +14,13 @@ use Rattle.sdlc.specs.declared.Framed.{Framed}
 use Rattle.chip.specs.declared.Chip.{Chip}
 use Rattle.chip.specs.Event.{Event, DataWrite, Transmit}
 use Rattle.whole.specs.Come.{toCome, filledWith}
-use Rattle.whole.specs.Stage.{sinceAfter, inTime, Stage, opening, inByte, inCheck, closing}
+use Rattle.whole.specs.Stage.{inTime, Stage, opening, inByte, inCheck, closing}
 use Rattle.whole.specs.Start.{started, flagHead, frameEnded}
 use Rattle.whole.specs.Laws.Come.{moves, later, too-late}
 use Rattle.whole.specs.Laws.Start.{head-length, at-start, start-stage, ended-none, unended-some}
 use Rattle.stories.specs.Story.{Which, number, chan, happens, after}
 use Rattle.stories.specs.Sent.{ticksBy, isTick, ticks}
-use Rattle.history.specs.Sending.Side.{good, SenderSide, side, sideOf, fullOf}
+use Rattle.history.specs.Sending.Side.{good, SenderSide, side, sideOf}
 use Rattle.history.specs.Sending.Events.{tick-more, write-side, write-no-tick}
 use Rattle.history.specs.Sending.Events.{skip-ticks}
 use Rattle.timely.specs.Start.{start-side}

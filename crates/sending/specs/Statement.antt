@@ -10,13 +10,13 @@ use Rattle.sdlc.specs.declared.LineUnit.the-variants.{Flag, Byte}
 use Rattle.sdlc.specs.Sound.{SoundUnit}
 use Rattle.sender.specs.Good.{Good}
 use Rattle.chip.specs.declared.Chip.{Chip}
-use Rattle.chip.specs.Event.{Event, ControlWrite, DataWrite, Transmit}
+use Rattle.chip.specs.Event.{Event, ControlWrite, Transmit}
 use Rattle.whole.specs.Come.{opens}
 use Rattle.whole.specs.Start.{flagHead}
 use Rattle.stories.specs.Story.{Which, number, chan, happens, after}
-use Rattle.stories.specs.Sent.{Else, toSender, lineOf, ticks, d6, resetStatus}
-use Rattle.history.specs.Sending.Side.{sendingIn, sideOf, fullOf, latchOf}
-use Rattle.history.specs.Sending.Stories.{TicksWhere}
+use Rattle.stories.specs.Sent.{lineOf, ticks, d6, resetStatus}
+use Rattle.history.specs.Sending.Side.{sendingIn, fullOf, latchOf}
+use Rattle.history.specs.Sending.Stories.{TicksWhere, anew}
 use Rattle.timely.specs.Start.{Start}
 use Rattle.timely.specs.InTime.{InTime}
 use Rattle.timely.specs.Free.{Free}
@@ -53,10 +53,6 @@ pub record Closing (w : Which) (c : Chip) (p : ℕ) : Type 0 where
   pub settings : Good (sendingIn (chan w c))
   pub history : SoundUnit (chan w c .sender .unit) (chan w c .sender .insertion)
   pub to-wr0 : chan w c .pointer ≡ 0
-
--- WR0, "D7-6: .. 2 preset Tx check, 3 clear Underrun latch"
-abbrev pub anew : Which → List Event
-anew w = ControlWrite (number w) 0b10000000 ∷ ControlWrite (number w) 0b11000000 ∷ []
 
 abbrev pub StartsAnew : Type 0
 StartsAnew = (w : Which) (c : Chip) (p : ℕ) → Closing w c p → Start w (after c (anew w)) p

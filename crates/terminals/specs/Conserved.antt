@@ -2,7 +2,7 @@
 -- handed over. Assumes nothing.
 use mathlib.Core.Path.{_≡_, refl, sym, ap, ap₂, _∙_, subst}
 use mathlib.Core.Bool.{Bool, true, _&&_}
-use mathlib.Core.List.{List, [], _∷_, _++_, append-assoc}
+use mathlib.Core.List.{List, _++_, append-assoc}
 use Prim.Native.Nat.{ℕ}
 use Rattle.entry.specs.declared.Entry.{Entry}
 use Rattle.queue.specs.declared.Queue.{Queue}
@@ -21,7 +21,7 @@ use Rattle.terminals.specs.Side.{Heeded, Side, side, sideOf, checkingOf,
 use Rattle.terminals.specs.Side.{momentsOf}
 use Rattle.history.specs.Receiving.Events.{queuedIf, roomIf, queue-takes}
 use Rattle.history.specs.Receiving.Stories.{HearsWhere, over, hears, reads, still}
-use Rattle.terminals.specs.Events.{heardBy, heardSide, readSide, Follows}
+use Rattle.terminals.specs.Events.{matchedBy, heardSide, readSide, Follows}
 use Rattle.terminals.specs.Events.{Hearing, follows}
 
 -- "stays on .. read before a fourth character waits and else untouched but for WR3 D3": a tick that
@@ -29,7 +29,7 @@ use Rattle.terminals.specs.Events.{Hearing, follows}
 -- as it was
 
 abbrev pub roomy : Side → Bool → Bool → Bool
-roomy x i b = roomIf (heardBy i b x .some) (x .queue)
+roomy x i b = roomIf (matchedBy i b x .some) (x .queue)
 
 abbrev pub Fed : Which → Chip → List Event → Type 0
 Fed w c st = HearsWhere (sideOf w) (λ d b. roomy (sideOf w d) (checkingOf w d) b ≡ true) w c st

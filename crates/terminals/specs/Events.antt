@@ -35,12 +35,12 @@ hear-off g s b e o =
     ∙ ap (λ (x : Bool). if x then byMatched s (hearBlock (g .matching) (s .reception) (s .check) b)
     else silent (dropped s true false)) o
 
-abbrev pub heardBy : Bool → Bool → Side → Matched
-heardBy i b x = hearBlock (heeding (x .heeds .matching) i) (x .reception) (x .check) b
+abbrev pub matchedBy : Bool → Bool → Side → Matched
+matchedBy i b x = hearBlock (heeding (x .heeds .matching) i) (x .reception) (x .check) b
 
 abbrev pub heardSide : Bool → Bool → Side → Side
 heardSide i b x =
-    let h = heardBy i b x in
+    let h = matchedBy i b x in
     side (h .reception) (h .check) (queuedIf (h .some) (x .queue) (h .entry)) (x .heeds)
 
 abbrev pub readSide : Side → Side

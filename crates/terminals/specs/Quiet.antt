@@ -1,7 +1,7 @@
 -- Which events leave the receiving side of a channel as it was: a test that a reader can run, and
 -- the proof that it is enough. Of its own a mode here says WR3, WR5 and WR7; WR3 D3 may be written
 -- as the host likes. Assumes nothing.
-use mathlib.Core.Path.{_≡_, refl, ap, _∙_}
+use mathlib.Core.Path.{_≡_, ap, _∙_}
 use mathlib.Core.Bool.{Bool, true, false, not, _&&_, _||_, Bool·beq}
 use Prim.Native.Nat.{ℕ, _/_}
 use Rattle.common.specs.Choice.{if_then_else_}

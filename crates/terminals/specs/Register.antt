@@ -6,7 +6,6 @@ use Prim.Native.Nat.{ℕ}
 use Rattle.common.specs.Choice.{if_then_else_}
 use Rattle.common.specs.Mode.{inBlocks}
 use Rattle.common.specs.Tools.{bool-or, void}
-use Rattle.common.specs.declared.Refusal.the-variants as refusal
 use Rattle.shared.specs.Preset.{zeros}
 use Rattle.bytesync.specs.declared.Reception.{Reception}
 use Rattle.bytesync.specs.Hearing.{searching, hearBlock}

@@ -23,9 +23,10 @@ use Rattle.bytesync.specs.declared.Synced.{Synced}
 use Rattle.bytesync.specs.Syncs.{pair}
 use Rattle.bytesync.specs.Sending.{sentBit, syncSent, syncLeft, startSync, startByte, startCheck}
 use Rattle.bytesync.specs.Sending.{following, tickBlock, sendsCheck}
+use Rattle.whole.specs.Come.{waiting}
 use Rattle.blocks.specs.Check.{checkFrom}
 use Rattle.blocks.specs.Come.{Good, Sends, sends, ticked, filledWith, syncBits, behind}
-use Rattle.blocks.specs.Come.{closed, waiting, toCome, chooses, inTime, Stage, atMark}
+use Rattle.blocks.specs.Come.{closed, toCome, chooses, inTime, Stage, atMark}
 use Rattle.blocks.specs.Come.{opening, inByte, inCheck, inTail, closing}
 use Rattle.blocks.specs.Laws.Hunt.{lowBits-above}
 

@@ -6,7 +6,7 @@ use mathlib.Core.Bool.{Bool, true}
 use mathlib.Core.List.{List, [], _∷_}
 use Prim.Native.Nat.{ℕ}
 use Rattle.chip.specs.declared.Chip.{Chip}
-use Rattle.chip.specs.Event.{Event, DataWrite, Transmit}
+use Rattle.chip.specs.Event.{Event, ControlWrite, DataWrite, Transmit}
 use Rattle.stories.specs.Story.{Which, number, happens, throughout, throughout-holds}
 use Rattle.stories.specs.Sent.{ToSender, Ticks, Writes, Else, toSender}
 use Rattle.history.specs.Sending.Side.{sideOf, View, its-tick, its-write, other, view}
@@ -23,6 +23,11 @@ pub data TicksWhere (May : Chip → Type 0) (w : Which) : Chip → List Event �
   ticking : {c : Chip} {st : List Event} → May c
       → TicksWhere May w (happens c (Transmit (number w)) .chip) st
       → TicksWhere May w c (Transmit (number w) ∷ st)
+
+-- What makes a sender ready for the next frame or block: WR0, "D7-6: .. 2 preset Tx check, 3 clear
+-- Underrun latch"
+abbrev pub anew : Which → List Event
+anew w = ControlWrite (number w) 0b10000000 ∷ ControlWrite (number w) 0b11000000 ∷ []
 
 -- As a test
 
