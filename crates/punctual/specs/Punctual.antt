@@ -160,11 +160,13 @@ loads w {left} (ticking {c = c} {n = n} {rest = rest} {st = st} f i) s e g l =
     let u = steps (stage-going g) open-yet in
     let d = happens c (Transmit (number w)) .chip in
     let same : t .next ≡ u .next = ap (λ (x : Framed). x .framer) (sym (t .ticks) ∙ u .ticks) in
-    let m = loads w i (t .next) (taken .there) (taken .stage) (omega (arith, ap length (t .head))) in
-    let next : senderOf w d ≡ t .next = ap (λ (x : SenderSide). x .sender) (taken .there) in
+    let there = taken .there in
+    let stage = taken .stage in
+    let m = loads w i (t .next) there stage (omega (arith, ap length (t .head))) in
+    let next : senderOf w d ≡ t .next = ap (λ (x : SenderSide). x .sender) there in
     let kept : leaves s (t .next) ++ meant (t .next) rest ≡ meant s rest =
     ap (λ (x : Framer). leaves s x ++ meant x rest) same
-    ∙ u .kept rest (λ a b. latched-none (taken .stage) (ap (λ (x : Framer). x .shared .latch) same ∙ a)) in
+    ∙ u .kept rest (λ a b. latched-none stage (ap (λ (x : Framer). x .shared .latch) same ∙ a)) in
     record {
       last = m .last;
       since = m .since;
@@ -172,7 +174,8 @@ loads w {left} (ticking {c = c} {n = n} {rest = rest} {st = st} f i) s e g l =
       stage = m .stage;
       host = hosts.ticking (ap frameEnded was ∙ open-yet) (m .host);
       none =
-          tick-passed w c st s was ∙ ap (λ (b : Bool). onMore b (passed w d st)) (not-idle g (taken .timely))
+          tick-passed w c st s was
+          ∙ ap (λ (b : Bool). onMore b (passed w d st)) (not-idle g (taken .timely))
           ∙ m .none;
       bytes =
           ap (λ (b : List ℕ). b ++ meant (m .last) left) (tick-loaded w c st s (t .next) was next)

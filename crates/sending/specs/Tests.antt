@@ -38,4 +38,5 @@ unlatched false s t e = not-true s t
 
 pub watched-of : (w : Which) (c : Chip) (st : List Event) → watching w c st ≡ true → Watched w c st
 watched-of w c st t =
-    ticks-where (Seeing w) (seeing w) (λ d a. unlatched (latchOf w d) (statusLatched w d) a) w c st t
+    ticks-where (Seeing w) (seeing w) (λ d a. unlatched (latchOf w d) (statusLatched w d) a) w c
+    st t
