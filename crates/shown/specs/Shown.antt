@@ -30,8 +30,7 @@ use Rattle.channel.specs.Control.{setWr4, setRegister, controlWritten, rr0}
 use Rattle.channel.specs.Events.{dataRead, transmitTick, receiveTick, linesSet}
 use Rattle.chip.specs.declared.Chip.{Chip}
 use Rattle.chip.specs.declared.Outcome.{Outcome}
-use Rattle.chip.specs.Interrupts.{pendingOf, serviceOf, inService, acknowledge, reti, anyPending}
-use Rattle.chip.specs.Interrupts.{rr2}
+use Rattle.chip.specs.Interrupts.{pendingOf, serviceOf, inService, acknowledge, reti}
 use Rattle.chip.specs.Chip.{serviceBy, controlWriteA, controlWrite, controlReadCall, dataWriteCall}
 use Rattle.chip.specs.Chip.{dataReadCall, transmitCall, receiveCall, linesCall}
 use Rattle.chip.specs.Event.{Event, HardReset, ControlWrite, ControlRead, DataWrite, DataRead}
@@ -40,7 +39,7 @@ use Rattle.stories.specs.Story.{Which, A, B, number, chan, happens}
 use Rattle.stories.specs.Sent.{d6, resetStatus}
 use Rattle.history.specs.Sending.Side.{sendingIn, latchOf}
 use Rattle.history.specs.Quiet.{by-channel}
-use Rattle.history.specs.Read.{read-rr0, placed-le, d6-of}
+use Rattle.history.specs.Read.{pendingIn, reads-rr0, placed-le, d6-of}
 use Rattle.channel.specs.declared.Side.the-variants as channels
 
 -- D6 as it is read
@@ -66,10 +65,8 @@ rr0-d6 c pending =
 
 pub d6-read : (w : Which) (c : Chip) → chan w c .pointer ≡ 0
     → d6 w c ≡ shownBits (chan w c .status) (liveOf (chan w c)) .underrun
-unfolding controlReadCall
-d6-read A c p =
-    ap (λ (v : ℕ). odd (v / 64)) (read-rr0 (c .a) (anyPending c) 0 p) ∙ rr0-d6 (c .a) (anyPending c)
-d6-read B c p = ap (λ (v : ℕ). odd (v / 64)) (read-rr0 (c .b) false (rr2 c) p) ∙ rr0-d6 (c .b) false
+d6-read w c p =
+    ap (λ (v : ℕ). odd (v / 64)) (reads-rr0 w c p) ∙ rr0-d6 (chan w c) (pendingIn w c)
 
 -- Shown once set
 

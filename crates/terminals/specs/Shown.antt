@@ -1,7 +1,7 @@
 -- What RR0 and RR1 show of the receiver in Monosync and Bisync: D6 of RR1 is the check's, at all
 -- times, and D4 of RR0 is hunt. Assumes nothing.
 use mathlib.Core.Path.{_≡_, ap, _∙_}
-use mathlib.Core.Bool.{Bool, true, false}
+use mathlib.Core.Bool.{Bool, true}
 use Prim.Native.Nat.{ℕ, _+_, _*_, _/_, _≤_}
 use native.Mathlib.Omega.{arith}
 use Rattle.common.specs.Bit.{placed}
@@ -19,10 +19,8 @@ use Rattle.channel.specs.declared.Channel.{Channel}
 use Rattle.channel.specs.Channel.{liveOf}
 use Rattle.channel.specs.Control.{rr0, rr1Now}
 use Rattle.chip.specs.declared.Chip.{Chip}
-use Rattle.chip.specs.Interrupts.{anyPending, rr2}
-use Rattle.chip.specs.Chip.{controlReadCall}
-use Rattle.stories.specs.Story.{Which, A, B, chan}
-use Rattle.history.specs.Read.{read-rr0, read-rr1, placed-le, placed-is, d6-of}
+use Rattle.stories.specs.Story.{Which, chan}
+use Rattle.history.specs.Read.{pendingIn, reads-rr0, reads-rr1, placed-le, placed-is, d6-of}
 use Rattle.terminals.specs.Side.{sideIn, sideOf}
 use Rattle.terminals.specs.Statement.{rr1D6, d4}
 
@@ -55,10 +53,7 @@ rr1-d6 c m =
 -- "RR1 D6 is then 1 exactly while that check is not zero"
 pub d6-is : (w : Which) (c : Chip) → inBlocks (sideOf w c .heeds .mode) ≡ true
     → chan w c .pointer ≡ 1 → rr1D6 w c ≡ wrong (chan w c .receiver .check)
-unfolding controlReadCall
-d6-is A c m p =
-    ap (λ (v : ℕ). odd (v / 64)) (read-rr1 (c .a) (anyPending c) 0 p) ∙ rr1-d6 (c .a) m
-d6-is B c m p = ap (λ (v : ℕ). odd (v / 64)) (read-rr1 (c .b) false (rr2 c) p) ∙ rr1-d6 (c .b) m
+d6-is w c m p = ap (λ (v : ℕ). odd (v / 64)) (reads-rr1 w c p) ∙ rr1-d6 (chan w c) m
 
 -- RR0 D4
 
@@ -97,8 +92,5 @@ rr0-d4 c pending =
 
 pub d4-is : (w : Which) (c : Chip) → chan w c .pointer ≡ 0
     → d4 w c ≡ shownBits (chan w c .status) (liveOf (chan w c)) .hunt
-unfolding controlReadCall
-d4-is A c p =
-    ap (λ (v : ℕ). odd (v / 16)) (read-rr0 (c .a) (anyPending c) 0 p) ∙ rr0-d4 (c .a) (anyPending c)
-d4-is B c p =
-    ap (λ (v : ℕ). odd (v / 16)) (read-rr0 (c .b) false (rr2 c) p) ∙ rr0-d4 (c .b) false
+d4-is w c p =
+    ap (λ (v : ℕ). odd (v / 16)) (reads-rr0 w c p) ∙ rr0-d4 (chan w c) (pendingIn w c)
