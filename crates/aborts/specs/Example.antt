@@ -22,7 +22,7 @@ use Rattle.history.specs.Receiving.Side as receiving
 use Rattle.history.specs.Receiving.Events.{Hearing}
 use Rattle.timely.specs.Tests.{freely, free-of}
 use Rattle.sending.specs.Example as sending
-use Rattle.sending.specs.Statement.{anew}
+use Rattle.history.specs.Sending.Stories.{anew}
 use Rattle.hosts.specs.Loaded.{loaded, passed, flags, closed}
 use Rattle.hosts.specs.Tests.{hosting, host-of}
 use Rattle.aborts.specs.Statement.{Cuts, sent, abortLine, waitingOf, Aborted, endsTold}

@@ -1,7 +1,7 @@
 -- Behind an abort, a preset and a clear, the bytes loaded are the frame that follows. Assumes
 -- nothing.
 use mathlib.Core.Path.{_≡_, refl, sym, ap, _∙_}
-use mathlib.Core.Bool.{Bool, true, false, not, _&&_}
+use mathlib.Core.Bool.{Bool, true, false}
 use mathlib.Core.List.{List, [], _∷_, _++_, append-nil}
 use Prim.Native.Nat.{ℕ, zero, suc}
 use lib.ListN.{take, replicate}
@@ -24,14 +24,14 @@ use Rattle.chip.specs.Event.{Event, ControlWrite, DataWrite, Transmit}
 use Rattle.whole.specs.Come as come
 use Rattle.whole.specs.Start.{frameEnded}
 use Rattle.stories.specs.Story.{Which, number, chan, happens, after}
-use Rattle.stories.specs.Sent.{ticksBy, lineOf, ticks}
+use Rattle.stories.specs.Sent.{ticksBy, isTick, lineOf, ticks}
 use Rattle.history.specs.Sending.Side.{heeded, good, good-of, SenderSide, side, sendingIn, sideOf}
 use Rattle.history.specs.Sending.Events.{tickedOf, tick-side, tick-bit, skip-line, write-side}
 use Rattle.history.specs.Sending.Events.{write-no-tick, line-length}
 use Rattle.sending.specs.Chain.{mode-in, write-preset, write-clear}
-use Rattle.hosts.specs.Loaded.{senderOf, loaded, onMore, passed, flags, closed, Host, rests, still}
-use Rattle.hosts.specs.Loaded.{writes, ticking, byteIf}
-use Rattle.hosts.specs.Steps.{ahead, opening}
+use Rattle.hosts.specs.Loaded.{senderOf, loaded, onMore, passed, flags, closed, Host}
+use Rattle.history.specs.Sending.Stories.{ended, still, writes, ticking}
+use Rattle.hosts.specs.Steps.{ahead, none-leaves, none-passes, opening}
 use Rattle.hosts.specs.Line.{skip-loaded, skip-passed, tick-loaded, tick-passed, kept, ended-none}
 use Rattle.hosts.specs.Line.{flags-swap}
 use Rattle.hosts.specs.Line.{every-host}
@@ -50,15 +50,6 @@ record Rest (w : Which) (c : Chip) (ys : List Event) (k : ℕ) : Type 0 where
   pub whole : lineOf w c ys ++ rest ≡ replicate k true ++ frameAhead w c ys
   pub none : closed w (after c ys) ≡ true → rest ≡ []
 
--- a tick of it loads nothing and lets no flag pass
-same-leaves : (f : Bool) (b : ℕ) → byteIf (f && not f) b ≡ []
-same-leaves true b = refl
-same-leaves false b = refl
-
-not-idle : (f : Bool) → not f && false ≡ false
-not-idle true = refl
-not-idle false = refl
-
 skip-ahead : (w : Which) (c : Chip) (x : Event) (ys : List Event)
     → (passed w c (x ∷ ys) ≡ passed w (happens c x .chip) ys)
     → (loaded w c (x ∷ ys) ≡ loaded w (happens c x .chip) ys)
@@ -69,38 +60,33 @@ frame-is : (bytes : List ℕ) → flagBits ++ come.closed 0 ones [] bytes ≡ fr
 unfolding come.closed
 frame-is bytes = refl
 
+-- an event that is no tick adds nothing
+past : (w : Which) (c : Chip) (x : Event) (ys : List Event) (k : ℕ) → isTick w x ≡ false
+    → Rest w (happens c x .chip) ys k → Rest w c (x ∷ ys) k
+unfolding after
+past w c x ys k z i = record {
+  rest = i .rest;
+  whole = ap (λ (l : List Bool). l ++ i .rest) (skip-line w c x ys z) ∙ i .whole
+      ∙ ap (λ (l : List Bool). replicate k true ++ l)
+      (sym (skip-ahead w c x ys (skip-passed w c x ys z) (skip-loaded w c x ys z)));
+  none = i .none;
+}
+
 follow : (w : Which) {c : Chip} {ys : List Event} → Host w c ys → (k r b : ℕ) (f : Bool)
     → sideOf w c ≡ side (cutOff k r b f) good → Rest w c ys k
 unfolding lineOf after loaded passed flags
-follow w rests k r b f e = record {
+follow w ended k r b f e = record {
   rest = replicate k true ++ frame [];
   whole = refl;
   none = λ z. void (sym (ap (λ (x : SenderSide). frameEnded (x .sender)) e) ∙ z);
 }
 follow w (still {c = c} {e = x} {st = st} q t h) k r b f e =
-    let z = ap ticksBy q in
-    let i = follow w h k r b f (t ∙ e) in
-    record {
-      rest = i .rest;
-      whole = ap (λ (l : List Bool). l ++ i .rest) (skip-line w c x st z) ∙ i .whole
-          ∙ ap (λ (l : List Bool). replicate k true ++ l)
-          (sym (skip-ahead w c x st (skip-passed w c x st z) (skip-loaded w c x st z)));
-      none = i .none;
-    }
+    past w c x st k (ap ticksBy q) (follow w h k r b f (t ∙ e))
 follow w (writes {c = c} {v = v} {st = st} h) k r b f e =
-    let x = DataWrite (number w) v in
-    let z = write-no-tick w v in
-    let i =
-    follow w h k r v true
+    past w c (DataWrite (number w) v) st k (write-no-tick w v)
+    (follow w h k r v true
     (write-side w c v
-    ∙ ap (λ (y : SenderSide). side (come.filledWith (y .sender) v) (y .heeds)) e) in
-    record {
-      rest = i .rest;
-      whole = ap (λ (l : List Bool). l ++ i .rest) (skip-line w c x st z) ∙ i .whole
-          ∙ ap (λ (l : List Bool). replicate k true ++ l)
-          (sym (skip-ahead w c x st (skip-passed w c x st z) (skip-loaded w c x st z)));
-      none = i .none;
-    }
+    ∙ ap (λ (y : SenderSide). side (come.filledWith (y .sender) v) (y .heeds)) e))
 follow w (ticking {c = c} {st = st} z h) (suc j) r b f e =
     let d = happens c (Transmit (number w)) .chip in
     let x = shared b f false ones in
@@ -114,9 +100,9 @@ follow w (ticking {c = c} {st = st} z h) (suc j) r b f e =
     let i = follow w h j 0 b f y in
     let p =
     tick-passed w c st (cutOff (suc j) r b f) was
-    ∙ ap (λ (q : Bool). onMore q (passed w d st)) (not-idle f) in
+    ∙ ap (λ (q : Bool). onMore q (passed w d st)) (none-passes false f false (λ l. refl)) in
     let l = tick-loaded w c st (cutOff (suc j) r b f) (cutOff j 0 b f) was is
-    ∙ ap (λ (q : List ℕ). q ++ loaded w d st) (same-leaves f b) in
+    ∙ ap (λ (q : List ℕ). q ++ loaded w d st) (none-leaves f b) in
     record {
       rest = i .rest;
       whole =
@@ -142,10 +128,10 @@ follow w (ticking {c = c} {st = st} z h) zero r b f e =
     let i = kept w h flag y (opening 7 b f ones) in
     let p =
     tick-passed w c st (cutOff 0 r b f) was
-    ∙ ap (λ (q : Bool). onMore q (passed w d st)) (not-idle f) in
+    ∙ ap (λ (q : Bool). onMore q (passed w d st)) (none-passes false f false (λ l. refl)) in
     let l =
     tick-loaded w c st (cutOff 0 r b f) flag was is
-    ∙ ap (λ (q : List ℕ). q ++ loaded w d st) (same-leaves f b) in
+    ∙ ap (λ (q : List ℕ). q ++ loaded w d st) (none-leaves f b) in
     let more = ahead (i .last) 0 [] in
     record {
       rest = more;

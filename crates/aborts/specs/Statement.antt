@@ -20,12 +20,13 @@ use Rattle.whole.specs.Start.{flagHead}
 use Rattle.whole.specs.Heard.{hearAll, flagFree, endMarks}
 use Rattle.stories.specs.Story.{Which, number, chan, happens, after}
 use Rattle.stories.specs.Sent.{isTick, lineOf, ticks}
-use Rattle.stories.specs.Received.{Hears, Reads, Else, toReceiver, bitsOf, tookOf}
+use Rattle.stories.specs.Received.{bitsOf, tookOf}
 use Rattle.history.specs.Sending.Side.{sideOf}
 use Rattle.history.specs.Receiving.Side as receiving
 use Rattle.history.specs.Receiving.Events.{Hearing}
+use Rattle.history.specs.Receiving.Stories.{HearsWhere}
 use Rattle.timely.specs.Start.{Start}
-use Rattle.sending.specs.Statement.{anew}
+use Rattle.history.specs.Sending.Stories.{anew}
 use Rattle.hosts.specs.Loaded.{loaded, passed, flags, closed, Host}
 
 -- "An abort during that flag or later": Send Abort is a write to WR0 with command 1
@@ -97,17 +98,8 @@ waitingOf u r = waitingIn (chan u r .queue)
 
 -- "a receiver that was listening": in SDLC and on, it hears, is read or not as it comes, and all
 -- else leaves its side as it is. Its queue may overflow
-pub data Attends (u : Which) : Chip → List Event → Type 0 where
-  over : {r : Chip} → Attends u r []
-  hears : {r : Chip} {e : Event} {st : List Event} {b : Bool} → toReceiver u e ≡ Hears b
-      → Attends u (happens r e .chip) st → Attends u r (e ∷ st)
-  reads : {r : Chip} {e : Event} {st : List Event} → toReceiver u e ≡ Reads
-      → Attends u (happens r e .chip) st
-      → Attends u r (e ∷ st)
-  still : {r : Chip} {e : Event} {st : List Event} → toReceiver u e ≡ Else
-      → receiving.sideOf u (happens r e .chip) ≡ receiving.sideOf u r
-      → Attends u (happens r e .chip) st
-      → Attends u r (e ∷ st)
+abbrev pub Attends : Which → Chip → List Event → Type 0
+Attends u r st = HearsWhere (receiving.sideOf u) (λ d b. Unit) u r st
 
 pub record Listens (u : Which) (r : Chip) (rs : List Event) : Type 0 where
   pub hearing : Hearing (receiving.sideOf u r .settings)

@@ -8,7 +8,6 @@ use native.Mathlib.Omega.{arith}
 use lib.Dec.{eqb, ltb, eqb·suc-zero}
 use lib.ListN.{take, set, getD}
 use borrow.Author.Tests.{ne-eqb}
-use Rattle.common.specs.Choice.{if_then_else_}
 use Rattle.common.specs.Tools.{by-test}
 use Rattle.line.specs.Bits.{oneIf}
 use Rattle.entry.specs.declared.Entry.{Entry}
@@ -16,7 +15,6 @@ use Rattle.entry.specs.Entry.{noEntry, overran}
 use Rattle.queue.specs.declared.Queue.{Queue}
 use Rattle.queue.specs.Queue.{room, newest, queue, movedUp, pushed, taken, oldest, waits}
 use Rattle.queue.specs.Holding.{entryIf}
-use Rattle.sdlc.specs.declared.Listened.{Listened}
 use Rattle.sdlc.specs.Hearing.{hearSdlc}
 use Rattle.chip.specs.declared.Chip.{Chip}
 use Rattle.chip.specs.Event.{Event}
@@ -26,8 +24,9 @@ use Rattle.stories.specs.Story.{Which, chan, happens, after}
 use Rattle.stories.specs.Received.{ToReceiver, Hears, Reads, Else, toReceiver, bitIn, bitsOf}
 use Rattle.stories.specs.Received.{taking, tookOf}
 use Rattle.history.specs.Receiving.Side.{Side, sideOf}
-use Rattle.history.specs.Receiving.Events.{queuedBy, heardSide, readSide, Follows, Hearing, follows}
-use Rattle.aborts.specs.Statement.{waitingIn, Attends, over, hears, reads, still, endsTold}
+use Rattle.history.specs.Receiving.Events.{queuedIf, heardSide, readSide, Follows, Hearing, follows}
+use Rattle.history.specs.Receiving.Stories.{over, hears, reads, still}
+use Rattle.aborts.specs.Statement.{waitingIn, Attends, endsTold}
 
 -- The queue
 
@@ -57,13 +56,10 @@ push-marks q e =
     rw n (put-marks (q .count) (q .entries) e))
     (λ l. set-marks (q .count) newest (q .entries) (overran e)))
 
-queued-marks : (q : Queue) (h : Listened) → marks (queuedBy q h) ≤ marks q + endMarks (handed h)
-queued-marks q h = go (h .some)
-  where
-    go : (t : Bool)
-        → marks (if t then pushed q (h .entry) else q) ≤ marks q + endMarks (entryIf t (h .entry))
-    go true = omega (arith, push-marks q (h .entry))
-    go false = omega arith
+queued-marks : (some : Bool) (q : Queue) (x : Entry)
+    → marks (queuedIf some q x) ≤ marks q + endMarks (entryIf some x)
+queued-marks true q x = omega (arith, push-marks q x)
+queued-marks false q x = omega arith
 
 take-none : (n : ℕ) → take {A = Entry} n [] ≡ []
 take-none zero = refl
@@ -115,7 +111,7 @@ hear-bound x b bits =
     let h = hearSdlc (x .settings .addressing) (x .listener) b in
     omega (
       arith,
-      queued-marks (x .queue) h,
+      queued-marks (h .some) (x .queue) (h .entry),
       end-marks-join (handed h) (hearAll (x .settings .addressing) (h .listener) bits .got),
     )
 
@@ -140,7 +136,7 @@ pub told-few : (u : Which) {r : Chip} {rs : List Event} → Attends u r rs
     → endsTold u r rs ≤ bound (sideOf u r) (bitsOf u rs)
 unfolding after bitsOf
 told-few u {r} over h = unfold tookOf hearAll in (omega arith)
-told-few u (hears {r = r} {e = x} {st = st} {b = b} p a) h =
+told-few u (hears {c = r} {e = x} {st = st} {b = b} p m a) h =
     let d = happens r x .chip in
     let f : sideOf u d ≡ heardSide b (sideOf u r) = subst (Follows u r d) p (follows u r x h) in
     let i = told-few u a (subst Hearing (sym (ap (λ (y : Side). y .settings) f)) h) in
@@ -152,7 +148,7 @@ told-few u (hears {r = r} {e = x} {st = st} {b = b} p a) h =
     ≡ bound (sideOf u r) (b ∷ bitsOf u st) =
     ap (λ (y : ToReceiver). bound (sideOf u r) (bitIn y ++ bitsOf u st)) p in
     omega (arith, i, q, m, s, took-more u r x st, hear-bound (sideOf u r) b (bitsOf u st))
-told-few u (reads {r = r} {e = x} {st = st} p a) h =
+told-few u (reads {c = r} {e = x} {st = st} p a) h =
     let d = happens r x .chip in
     let f : sideOf u d ≡ readSide (sideOf u r) = subst (Follows u r d) p (follows u r x h) in
     let i = told-few u a (subst Hearing (sym (ap (λ (y : Side). y .settings) f)) h) in
@@ -165,7 +161,7 @@ told-few u (reads {r = r} {e = x} {st = st} p a) h =
     ≡ bound (sideOf u r) (bitsOf u st) =
     ap (λ (y : ToReceiver). bound (sideOf u r) (bitIn y ++ bitsOf u st)) p in
     omega (arith, i, q, m, s, took-more u r x st, read-bound (sideOf u r) (bitsOf u st))
-told-few u (still {r = r} {e = x} {st = st} p k a) h =
+told-few u (still {c = r} {e = x} {st = st} p k a) h =
     let d = happens r x .chip in
     let i = told-few u a (subst Hearing (sym (ap (λ (y : Side). y .settings) k)) h) in
     let q : bound (sideOf u d) (bitsOf u st) ≡ bound (sideOf u r) (bitsOf u st) =
@@ -207,7 +203,7 @@ pub attends-front : (u : Which) {r : Chip} (qs : List Event) {rs : List Event}
     → Behind u r qs × Attends u (after r qs) rs
 unfolding after bitsOf hearAll
 attends-front u [] a h = (record { listener = refl; settings = refl }, a)
-attends-front u {r} (x ∷ qs) (hears {b = b} p a) h =
+attends-front u {r} (x ∷ qs) (hears {b = b} p m a) h =
     let d = happens r x .chip in
     let y = heardSide b (sideOf u r) in
     let f : sideOf u d ≡ y = subst (Follows u r d) p (follows u r x h) in

@@ -2,49 +2,25 @@
 use crate::Item;
 use crate::LIST;
 use crate::NAME;
-use crate::REGISTER;
 use crate::SHARED_LIST;
-use crate::STOP;
 use crate::Sheet;
-use crate::input::next_call;
 use crate::judge::judged;
 use crate::part;
 use crate::two;
 use crate::wide;
 use chip::Chip;
 use flags::Between;
-use report::Pages;
 use station::Listed;
+use station::ROW;
 ghost use mathlib.Core.Path.{_≡_};
 ghost use denote.Ref.{now};
 ghost use Prim.Native.Nat.{_<_, _≤_};
 ghost use lib.ListN.{length};
 
-// The chip and the sheet after a call; over: there was none.
+// The chip after a call, and whether it gave what it must.
 pub(crate) struct Game {
     pub(crate) chip: Chip,
-    pub(crate) sheet: Sheet,
-    pub(crate) over: bool,
-}
-
-impl Game {
-    pub(crate) fn start() -> Game {
-        Game {
-            chip: Chip::reset(),
-            sheet: Sheet::start(),
-            over: false,
-        }
-    }
-}
-
-// The call has been made, and gave what it must or not.
-fn after(c: Chip, s: Sheet, right: bool) -> Game {
-    let t = s.item;
-    Game {
-        chip: c,
-        sheet: s.judged(right),
-        over: t.kind == STOP,
-    }
+    pub(crate) right: bool,
 }
 
 // What rows hold where nobody has written.
@@ -59,7 +35,12 @@ fn rows() -> [usize; ROWS]
     [UNTOUCHED; ROWS]
 }
 
-fn at(rows: &[usize], i: usize) -> usize {
+// A cell of the rows; the first note's row starts at 4, the second's at 8.
+fn cell(rows: &[usize], k: usize) -> usize {
+    if k < ROW {
+        return UNTOUCHED;
+    }
+    let i = k - ROW;
     if i < rows.len() {
         return rows[i];
     }
@@ -91,10 +72,6 @@ fn between_of(t: Item) -> Between {
     Between::usual()
 }
 
-fn pages_are(p: Pages, t: Item) -> bool {
-    t.is(p.number(), p.ticks())
-}
-
 fn room_of(rows: &[usize], x: u8) -> usize
     ensures { λ r. ⌜ r ≤ length (now (rows .entry)) ⌝ }
 {
@@ -110,35 +87,20 @@ fn room_of(rows: &[usize], x: u8) -> usize
 
 // Rows of eight bytes: number, bytes, zeros inserted, ticks. Each stands at its place, and behind the last there is nothing.
 fn rows_are(rows: &[usize], wanted: &[u8]) -> bool {
-    let mut next = 0;
+    let mut next = ROW;
     let mut i = 0;
     while i < wanted.len() {
-        if wanted.len() - i < 8 {
+        if wanted.len() - i < 2 {
             return false;
         }
-        next = 4 * two_at(wanted, i);
-        if next < 4 {
+        let k = ROW * two_at(wanted, i / 8 * 8) + i % 8 / 2;
+        if cell(rows, k) != two_at(wanted, i) {
             return false;
         }
-        if !row_is(rows, next - 4, wanted, i) {
-            return false;
-        }
-        i = i + 8;
+        next = k + 1;
+        i = i + 2;
     }
-    at(rows, next) == UNTOUCHED
-}
-
-fn row_is(rows: &[usize], j: usize, wanted: &[u8], i: usize) -> bool {
-    if rows.len() < j {
-        return false;
-    }
-    if wanted.len() < i {
-        return false;
-    }
-    (at(rows, j) == two_at(wanted, i))
-        & (at(rows, j + 1) == two_at(wanted, i + 2))
-        & (at(rows, j + 2) == two_at(wanted, i + 4))
-        & (at(rows, j + 3) == two_at(wanted, i + 6))
+    cell(rows, next) == UNTOUCHED
 }
 
 // The page timer gives the ticks of a list whose notes share flags.
@@ -146,56 +108,53 @@ fn timed(list: &[u8], t: Item) -> bool {
     if t.kind == LIST {
         return true;
     }
-    pages_are(report::page_ticks(list), t)
+    let p = report::page_ticks(list);
+    t.is(p.number(), p.ticks())
+}
+
+// A list gave what its item says.
+fn list_is(t: Item, l: Listed, list: &[u8], rows: &[usize], wanted: &[u8]) -> bool {
+    all_is(l, t) & timed(list, t) & rows_are(rows, wanted)
 }
 
 // A list through the chip, with room for x numbers of its rows, or for all.
-fn listed_in(rows: &mut [usize], c: Chip, s: Sheet, list: &[u8], wanted: &[u8]) -> Game {
-    let t = s.item;
+fn listed_in(rows: &mut [usize], c: Chip, t: Item, list: &[u8], wanted: &[u8]) -> Game {
     let room = room_of(rows, t.x);
     let o = station::send_list(c, list, &mut rows[0..room], between_of(t));
     let l = o.listed;
-    let right = all_is(l, t) & timed(list, t) & rows_are(rows, wanted);
-    after(o.chip, s, right)
+    let right = list_is(t, l, list, rows, wanted);
+    let d = o.chip;
+    Game { chip: d, right }
 }
 
-fn listed(c: Chip, s: Sheet, list: &[u8], wanted: &[u8]) -> Game {
+fn listed(c: Chip, t: Item, list: &[u8], wanted: &[u8]) -> Game {
     let mut rows = rows();
-    listed_in(&mut rows, c, s, list, wanted)
+    listed_in(&mut rows, c, t, list, wanted)
 }
 
-fn played(c: Chip, s: Sheet) -> Game {
-    let t = s.item;
+fn played(c: Chip, t: Item) -> Game {
     let o = script::step(c, t.kind, t.x, t.y, t.z);
     let w = o.answer;
-    after(o.chip, s, t.is(w.number(), wide(w.value())))
+    let d = o.chip;
+    Game {
+        chip: d,
+        right: t.is(w.number(), wide(w.value())),
+    }
 }
 
-fn shown(c: Chip, t: Item) -> bool {
-    t.is(0, wide(script::register(c, t.x, t.y)))
-}
-
-// One item's call.
-fn turn(c: Chip, s: Sheet, given: &[u8], wanted: &[u8]) -> Game {
+// An item is played; one that is no call leaves all as it is.
+pub(crate) fn turn(c: Chip, s: Sheet, given: &[u8], wanted: &[u8]) -> Game {
     let t = s.item;
     if t.kind < NAME {
-        return played(c, s);
+        return played(c, t);
     }
+    let g = part(given, s.given);
+    let w = part(wanted, s.wanted);
     if (t.kind == LIST) | (t.kind == SHARED_LIST) {
-        return listed(c, s, part(given, s.given), part(wanted, s.wanted));
+        return listed(c, t, g, w);
     }
-    if t.kind == REGISTER {
-        return after(c, s, shown(c, t));
+    Game {
+        chip: c,
+        right: judged(t, script::register(c, t.x, t.y), g, w),
     }
-    after(
-        c,
-        s,
-        judged(t, part(given, s.given), part(wanted, s.wanted)),
-    )
-}
-
-// The next call.
-pub(crate) fn round(g: Game, given: &mut [u8], wanted: &mut [u8]) -> Game {
-    let s = next_call(g.sheet, given, wanted);
-    turn(g.chip, s, given, wanted)
 }

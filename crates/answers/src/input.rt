@@ -1,4 +1,4 @@
-// The items as they are read, up to the next call.
+// The items as they are read; those that are no calls are done at once.
 use crate::GIVEN;
 use crate::Item;
 use crate::NAME;
@@ -8,6 +8,7 @@ use crate::WANTED;
 use crate::part;
 use crate::two;
 use crate::wide;
+ghost use Prim.Native.Nat.{_<_};
 
 fn read_item() -> Item {
     let mut h = [0u8; 8];
@@ -24,98 +25,76 @@ fn read_item() -> Item {
     }
 }
 
-// So many bytes; gives how many there were.
-fn read_part(to: &mut [u8], n: usize) -> usize {
-    if n <= to.len() {
-        return io::read_full(0, &mut to[0..n]);
-    }
-    0
+// The bytes of a pattern of x bytes, so often as y and z say.
+fn size_of(t: Item) -> usize
+    ensures { λ r. ⌜ r < 16777217 ⌝ }
+{
+    wide(t.x) * two(t.y, t.z)
 }
 
-// A byte where there is room for it; gives the next place.
-fn put(to: &mut [u8], at: usize, v: u8) -> usize {
-    if at < to.len() {
-        to[at] = v;
-        return at + 1;
+// They are read; the pattern is there once even if it is to come no time. Gives the place behind.
+fn fill(to: &mut [u8], at: usize, t: Item) -> usize {
+    let n = wide(t.x);
+    let size = size_of(t);
+    if to.len() < at {
+        return at;
     }
-    at
-}
-
-pub(crate) fn put_all(to: &mut [u8], at: usize, bytes: &[u8]) -> usize {
-    let mut place = at;
-    let mut i = 0;
-    while i < bytes.len() {
-        place = put(to, place, bytes[i]);
+    if to.len() - at < n + size {
+        return at;
+    }
+    let mut i = at + n;
+    io::read_full(0, &mut to[at..i]);
+    while i < at + size {
+        to[i] = to[i - n];
         i = i + 1;
     }
-    place
-}
-
-// A pattern of x bytes, so often as y and z say; gives the place behind.
-fn fill(to: &mut [u8], at: usize, t: Item) -> usize {
-    let mut pattern = [0u8; 256];
-    let n = read_part(&mut pattern, wide(t.x));
-    let mut place = at;
-    let mut left = two(t.y, t.z);
-    while 0 < left {
-        place = put_all(to, place, part(&pattern, n));
-        left = left - 1;
-    }
-    place
-}
-
-// A case ends here: its line.
-fn named(s: Sheet, t: Item) -> Sheet {
-    let mut name = [0u8; 256];
-    let n = read_part(&mut name, wide(t.x));
-    let mut d = s;
-    d.right = true;
-    if s.right {
-        io::write_all(1, b"ok  ");
-        d.good = counted(s.good);
-    } else {
-        io::write_all(1, b"BAD ");
-    }
-    io::write_all(1, part(&name, n));
-    io::write_all(1, b"\n");
-    d.cases = counted(s.cases);
-    d
+    i
 }
 
 // One more, up to a million.
-fn counted(n: u64) -> u64 {
-    if n < 1000000 {
-        return n + 1;
+fn counted(n: u64, right: bool) -> u64 {
+    if right {
+        if n < 1000000 {
+            return n + 1;
+        }
     }
     n
 }
 
-// An item that is no call.
-fn gathered(start: Sheet, t: Item, given: &mut [u8], wanted: &mut [u8]) -> Sheet {
-    let mut s = start;
+fn verdict(right: bool) {
+    if right {
+        io::write_all(1, b"ok  ");
+        return;
+    }
+    io::write_all(1, b"BAD ");
+}
+
+// A case ends here: its line.
+fn named(mut s: Sheet, name: &[u8]) -> Sheet {
+    verdict(s.right);
+    io::write_all(1, name);
+    io::write_all(1, b"\n");
+    s.good = counted(s.good, s.right);
+    s.cases = counted(s.cases, true);
+    s.right = true;
+    s
+}
+
+// The next item.
+pub(crate) fn next_item(mut s: Sheet, given: &mut [u8], wanted: &mut [u8]) -> Sheet {
+    let t = read_item();
+    s.item = t;
     if t.kind == GIVEN {
-        s.given = fill(given, start.given, t);
+        s.given = fill(given, s.given, t);
         return s;
     }
     if t.kind == WANTED {
-        s.wanted = fill(wanted, start.wanted, t);
+        s.wanted = fill(wanted, s.wanted, t);
         return s;
     }
-    named(s, t)
-}
-
-// Items up to the next call, or the last.
-pub(crate) fn next_call(start: Sheet, given: &mut [u8], wanted: &mut [u8]) -> Sheet {
-    let mut s = start;
-    let mut left: u32 = 100000;
-    while 0 < left {
-        let t = read_item();
-        if (t.kind < NAME) | (WANTED < t.kind) {
-            s.item = t;
-            return s;
-        }
-        s = gathered(s, t, given, wanted);
-        left = left - 1;
+    if t.kind == NAME {
+        let n = fill(given, 0, t);
+        return named(s, part(given, n));
     }
     s
 }

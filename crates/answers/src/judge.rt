@@ -2,16 +2,15 @@
 use crate::CHECK;
 use crate::Item;
 use crate::LINE;
+use crate::REGISTER;
 use crate::SCAN;
 use crate::TRACE;
 use crate::ZEROS;
-use crate::input::put_all;
 use crate::part;
 use crate::two;
 use crate::wide;
 use chip::Chip;
-use notes::Scanned;
-use text::LONGEST;
+use text::Line;
 use zeros::Counted;
 ghost use mathlib.Core.Path.{_≡_};
 ghost use lib.ListN.{length};
@@ -43,10 +42,6 @@ fn counted_is(c: Counted, t: Item) -> bool {
     t.is(c.number(), c.zeros())
 }
 
-fn scanned_is(s: Scanned, t: Item) -> bool {
-    t.is(s.number(), s.notes())
-}
-
 // What a cell must hold: the bits stand at their place, and nothing before or behind them is touched.
 fn cell_of(bits: &[u8], place: usize, k: usize) -> u8 {
     if k < place {
@@ -70,10 +65,13 @@ fn page_is(page: &[u8], place: usize, bits: &[u8]) -> bool {
     true
 }
 
-// The place that an item names: 255 is the greatest there is.
+// The greatest place there is.
+const GREATEST: usize = 18446744073709551615;
+
+// The place that an item names: 255 is the greatest.
 fn place_of(z: u8) -> usize {
     if z == 255 {
-        return 18446744073709551615;
+        return GREATEST;
     }
     wide(z)
 }
@@ -96,25 +94,35 @@ fn written(t: Item, note: &[u8], bits: &[u8]) -> bool {
 // More lines than a run can have.
 const LINES: u16 = 20000;
 
-// A line is put.
-fn put_line(out: &mut [u8], at: usize, text: &[u8; LONGEST], size: usize) -> usize {
-    put_all(out, at, part(text, size))
+// The place behind a line that stands at this place of a text; where it does not, the greatest, at which no line stands.
+fn place_behind(text: &[u8], place: usize, l: Line) -> usize {
+    let line = l.text;
+    let bytes = part(&line, l.size);
+    if text.len() < place {
+        return GREATEST;
+    }
+    if text.len() - place < bytes.len() {
+        return GREATEST;
+    }
+    let end = place + bytes.len();
+    if check::same(&text[place..end], bytes) {
+        return end;
+    }
+    GREATEST
 }
 
 // What the program trace prints for these events is this text.
-fn traced_in(out: &mut [u8], events: &[u8], wanted: &[u8]) -> bool {
+fn traced(events: &[u8], wanted: &[u8]) -> bool {
     let mut chip = Chip::reset();
     let mut at = 0;
     let mut place = 0;
     let mut left = LINES;
     while 0 < left {
         let t = events::next(chip, events, at);
-        let l = t.line;
-        if l.size == 0 {
-            return page_is(out, 0, wanted);
+        if t.line.size == 0 {
+            return place == wanted.len();
         }
-        let text = l.text;
-        place = put_line(out, place, &text, l.size);
+        place = place_behind(wanted, place, t.line);
         chip = t.chip;
         at = t.at;
         left = left - 1;
@@ -122,18 +130,18 @@ fn traced_in(out: &mut [u8], events: &[u8], wanted: &[u8]) -> bool {
     false
 }
 
-fn traced(events: &[u8], wanted: &[u8]) -> bool {
-    let mut out = page();
-    traced_in(&mut out, events, wanted)
-}
-
-pub(crate) fn judged(t: Item, given: &[u8], wanted: &[u8]) -> bool {
+// A call that leaves the chip as it is, and what a host reads in the register that it may name.
+pub(crate) fn judged(t: Item, register: u8, given: &[u8], wanted: &[u8]) -> bool {
     let kind = t.kind;
     match kind {
+        REGISTER => t.is(0, wide(register)),
         CHECK => t.is(0, check_of(given) as usize),
         ZEROS => counted_is(zeros::zeros_of(given), t),
         LINE => written(t, given, wanted),
-        SCAN => scanned_is(notes::scan(given), t),
+        SCAN => {
+            let s = notes::scan(given);
+            t.is(s.number(), s.notes())
+        }
         TRACE => traced(given, wanted),
         _ => false,
     }

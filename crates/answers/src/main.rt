@@ -4,8 +4,9 @@ mod calls;
 mod input;
 mod judge;
 
-use crate::calls::Game;
-use crate::calls::round;
+use crate::calls::turn;
+use crate::input::next_item;
+use chip::Chip;
 ghost use Prim.Native.Nat.{_<_};
 
 // An item of eight bytes: its kind, three arguments, and what it must give: a refusal's number, and a value of three bytes.
@@ -53,7 +54,8 @@ const STOP: u8 = 255;
 // No value is asked for.
 const ANY: usize = 0xFFFFFF;
 
-// The next call, the bytes for it and the bytes that it must leave, so many of each; whether the case is right so far; the cases and those that were.
+// The item that was read last; the bytes for the next call and the bytes that it must leave, so many of each; whether the case is right so far; the
+// cases and those that were.
 struct Sheet {
     item: Item,
     given: usize,
@@ -83,13 +85,16 @@ impl Sheet {
         }
     }
 
-    // The call has been made.
-    fn judged(self, right: bool) -> Sheet {
-        let mut s = self;
-        s.given = 0;
-        s.wanted = 0;
-        s.right = self.right & right;
-        s
+    // The item has been played; the bytes for a call are used up by it.
+    fn judged(mut self, right: bool) -> Sheet {
+        let kind = self.item.kind;
+        if (NAME <= kind) & (kind <= WANTED) {
+            return self;
+        }
+        self.given = 0;
+        self.wanted = 0;
+        self.right = self.right & right;
+        self
     }
 }
 
@@ -122,16 +127,20 @@ fn tell(s: Sheet) {
     io::write_all(1, b" right\n");
 }
 
-// Every case, with as many calls as there can be.
+// Every case, with as many items as there can be.
 fn play(given: &mut [u8], wanted: &mut [u8]) {
-    let mut g = Game::start();
+    let mut c = Chip::reset();
+    let mut s = Sheet::start();
     let mut left: u32 = 1000000;
     while 0 < left {
-        g = round(g, given, wanted);
-        if g.over {
-            tell(g.sheet);
+        s = next_item(s, given, wanted);
+        if s.item.kind == STOP {
+            tell(s);
             return;
         }
+        let o = turn(c, s, given, wanted);
+        c = o.chip;
+        s = s.judged(o.right);
         left = left - 1;
     }
 }

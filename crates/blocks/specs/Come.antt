@@ -20,6 +20,8 @@ use Rattle.bytesync.specs.declared.BlockUnit.the-variants.{Mark, Sync, Byte, Ch
 use Rattle.bytesync.specs.declared.Syncing.{Syncing}
 use Rattle.bytesync.specs.Sending.{syncSent, tickBlock}
 use Rattle.shared.specs.Preset.{zeros}
+use Rattle.whole.specs.Come.{waiting}
+use Rattle.whole.specs.Stage.{Some}
 use Rattle.blocks.specs.Check.{checkFrom}
 
 -- the sender on, the check included; WR6 is a byte
@@ -57,10 +59,6 @@ unfoldable pub closed : Syncing → ℕ → List ℕ → List ℕ → List Bool
 closed g c vs tail =
     textBits 8 vs ++ (topBits 16 (checkFrom (g .polynomial) c vs) ++ behind g tail)
 
--- the byte in the buffer, if there is one, goes before those that are still to be written
-abbrev pub waiting : Shared → List ℕ → List ℕ
-waiting k rest = if k .full then k .buffer ∷ rest else rest
-
 -- by the unit under way: a sync or a byte is before the check while the latch is clear, and behind
 -- it once the latch is set
 abbrev pub coming : Syncing → Shared → List ℕ → List ℕ → BlockUnit → List Bool
@@ -91,12 +89,6 @@ timely full u (v ∷ rest) = full || not (chooses u)
 abbrev pub inTime : Sends → List ℕ → List ℕ → Bool
 inTime s rest tail =
     timely (s .shared .full) (s .unit) (if s .shared .latch then tail else rest)
-
--- something waits or is still to be written
-abbrev pub Some : Bool → List ℕ → Type 0
-Some true rest = Unit
-Some false [] = ⊥
-Some false (v ∷ rest) = Unit
 
 -- A block's stages, with `rest` and `tail` still to write
 pub data Stage : Sends → List ℕ → List ℕ → Type 0 where
@@ -173,5 +165,5 @@ abbrev pub blockBits : Syncing → List ℕ → List ℕ → List Bool
 blockBits g vs tail = syncBits (g .syncs) ++ closed g zeros vs tail
 
 -- "WR0 D7-6: .. 2 preset Tx check, 3 clear Underrun latch", for the next block
-abbrev pub anew : Sends → Sends
-anew s = sends (s .unit) (cleared (checkSet (s .shared) zeros))
+abbrev pub readied : Sends → Sends
+readied s = sends (s .unit) (cleared (checkSet (s .shared) zeros))

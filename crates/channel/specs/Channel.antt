@@ -2,6 +2,7 @@
 -- and its reset. Assumes nothing.
 use mathlib.Core.Bool.{Bool, true, false}
 use Prim.Native.Nat.{ℕ}
+use Rattle.common.specs.declared.Mode.the-variants.{NoMode}
 use Rattle.queue.specs.declared.Queue.{Queue}
 use Rattle.queue.specs.Queue.{empty}
 use Rattle.sender.specs.declared.Sender.{Sender}
@@ -24,7 +25,18 @@ use Rattle.settings.specs.Settings.{registers, receivingOf}
 
 abbrev pub channel : Registers → Sender → Receiver → Queue → Status → Lines → ℕ → Bool → Bool
     → Sources → Channel
-channel r s v q t l p a m i = record { registers = r; sender = s; receiver = v; queue = q; status = t; lines = l; pointer = p; armed = a; transmit = m; service = i }
+channel r s v q t l p a m i = record {
+  registers = r;
+  sender = s;
+  receiver = v;
+  queue = q;
+  status = t;
+  lines = l;
+  pointer = p;
+  armed = a;
+  transmit = m;
+  service = i;
+}
 
 abbrev pub withRegisters : Channel → Registers → Channel
 withRegisters c r =
@@ -97,7 +109,7 @@ settled was is = withStatus is (noticed (is .status) (liveOf was) (liveOf is))
 -- Resets
 
 abbrev pub noRegisters : Registers
-noRegisters = registers 0 0 0 0 0 0 0 false
+noRegisters = registers 0 0 0 0 0 0 0 NoMode
 
 -- "A channel reset zeroes the WRs, empties buffer and queue, leaves no mode, sets D6, clears D7 and
 -- RR1 D4 and D5, arms the first-character interrupt, presets both checks to ones, ends that

@@ -3,16 +3,20 @@ use crate::Answer;
 use crate::Answered;
 use crate::Channel;
 use common::Refusal;
+use common::in_sdlc;
 use interrupts::Sources;
 use queue::Queue;
 use receiver::Heard;
 use sender::Ticked;
 use settings::Lines;
+use settings::breaks;
 use settings::external_on;
 use settings::receive_mode;
 use settings::transmit_on;
 ghost use mathlib.Core.Path.{_≡_};
 ghost use Rattle.line.specs.Bits.{oneIf};
+ghost use Rattle.sender.specs.Sender.{tick};
+ghost use Rattle.settings.specs.Settings.{sendingOf};
 ghost use Rattle.channel.specs.Events.{dataWritten, dataRead, afterTick, transmitTick, queued, heardBy, receiveTick, linesSet, specialWaits, receivePending, pendingIn};
 
 impl Channel {
@@ -53,11 +57,24 @@ impl Channel {
         self
     }
 
+    // What the sender does; SDLC's is told no more than it heeds.
+    fn ticked(self) -> Ticked
+        ensures { λ r. ⌜ r ≡ tick (sendingOf (self .registers) (self .lines)) (self .sender) ⌝ }
+    {
+        if in_sdlc(self.registers.mode()) {
+            return self.sender.tick_framed(
+                self.registers.framing(self.lines),
+                breaks(self.registers.wr5),
+            );
+        }
+        self.sender.tick(self.registers.sending(self.lines))
+    }
+
     // A transmit tick.
     pub fn transmit_tick(self) -> Answered
         ensures { λ r. ⌜ r ≡ transmitTick self ⌝ }
     {
-        let t = self.sender.tick(self.registers.sending(self.lines));
+        let t = self.ticked();
         // the latch alone can move the status
         if t.sender.shared.latch == self.sender.shared.latch {
             return Answered {

@@ -4,6 +4,7 @@ mod external;
 mod reading;
 mod within;
 
+use common::Mode;
 use common::Refusal;
 use interrupts::Sources;
 use queue::Queue;
@@ -23,21 +24,22 @@ pub enum Side {
     B,
 }
 
+// Its parts stand in the order in which the fewest instructions move a channel through a tick (bench/README.md).
 pub struct Channel {
-    pub registers: Registers,
-    pub sender: Sender,
-    pub receiver: Receiver,
-    pub queue: Queue,
-    pub status: Status,
     pub lines: Lines,
-    // the register that the next control read or write names
-    pub pointer: u8,
-    // the first-character interrupt
-    pub armed: bool,
-    // transmit is pending
-    pub transmit: bool,
+    pub status: Status,
+    pub receiver: Receiver,
     // the sources in service
     pub service: Sources,
+    // the first-character interrupt
+    pub armed: bool,
+    // the register that the next control read or write names
+    pub pointer: u8,
+    pub queue: Queue,
+    // transmit is pending
+    pub transmit: bool,
+    pub sender: Sender,
+    pub registers: Registers,
 }
 
 // What a call answers.
@@ -112,7 +114,7 @@ impl Channel {
                 wr5: 0,
                 wr6: 0,
                 wr7: 0,
-                chosen: false,
+                mode: Mode::NoMode,
             },
             sender: Sender::reset(),
             receiver: Receiver::reset(),

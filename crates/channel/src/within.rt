@@ -8,6 +8,8 @@ use common::in_blocks;
 use common::in_sdlc;
 use settings::breaks;
 ghost use mathlib.Core.Path.{_≡_};
+ghost use Rattle.channel.specs.declared.Answer.the-variants.{Done};
+ghost use Rattle.channel.specs.Channel.{answered};
 ghost use Rattle.channel.specs.Within.{withinByte, tickedWithin, withinBlock, tickedBlock};
 ghost use Rattle.channel.specs.Within.{hearsWithin, heardWithin, hearsBlock, heardBlock};
 
@@ -73,13 +75,16 @@ impl Channel {
     }
 
     // The tick, if so.
-    pub fn hear_within(self, bit: bool) -> Channel
-        ensures { λ r. ⌜ r ≡ heardWithin self bit ⌝ }
+    pub fn hear_within(self, bit: bool) -> Answered
+        ensures { λ r. ⌜ r ≡ answered Done (heardWithin self bit) ⌝ }
     {
         let mut c = self;
         c.receiver = self.receiver
             .with_listener(listening::hear_within(self.receiver.listener(), bit));
-        c
+        Answered {
+            answer: Answer::Done,
+            channel: c,
+        }
     }
 
     // A receive tick in Monosync or Bisync, on, outside hunt and inside a character.
@@ -92,12 +97,15 @@ impl Channel {
     }
 
     // The tick, if so.
-    pub fn hear_block(self, bit: bool) -> Channel
-        ensures { λ r. ⌜ r ≡ heardBlock self bit ⌝ }
+    pub fn hear_block(self, bit: bool) -> Answered
+        ensures { λ r. ⌜ r ≡ answered Done (heardBlock self bit) ⌝ }
     {
         let mut c = self;
         c.receiver = self.receiver
             .with_reception(bytesync::hear_within(self.receiver.reception, bit));
-        c
+        Answered {
+            answer: Answer::Done,
+            channel: c,
+        }
     }
 }

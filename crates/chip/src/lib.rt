@@ -34,14 +34,12 @@ pub struct Acknowledged {
     pub chip: Chip,
 }
 
-// A channel's event that gives no value, as a call answers it.
-fn done(c: Channel) -> Answered
-    ensures { λ r. ⌜ r ≡ answered Done c ⌝ }
+// A transmit tick of a channel whatever its unit is. The channel is copied here, so that a tick inside a byte need not lay it out for this one.
+fn ticked(c: Channel) -> Answered
+    ensures { λ r. ⌜ r ≡ transmitTick c ⌝ }
 {
-    Answered {
-        answer: Answer::Done,
-        channel: c,
-    }
+    let a = c;
+    a.transmit_tick()
 }
 
 // A data write of a channel, as a call answers it; the others likewise.
@@ -181,21 +179,6 @@ impl Chip {
         self.refused(Refusal::Channel)
     }
 
-    // A's transmit tick whatever its unit is, and B's: apart, so that a tick inside a byte need not lay its channel out for them.
-    fn whole_a(self) -> Outcome
-        ensures { λ r. ⌜ r ≡ inA self (transmitTick (self .a)) ⌝ }
-    {
-        let a = self.a;
-        self.in_a(a.transmit_tick())
-    }
-
-    fn whole_b(self) -> Outcome
-        ensures { λ r. ⌜ r ≡ inB self (transmitTick (self .b)) ⌝ }
-    {
-        let b = self.b;
-        self.in_b(b.transmit_tick())
-    }
-
     // A's transmit tick, and B's. Most lie inside a byte: these are done here, with no further call (bench/README.md).
     fn transmit_a(self) -> Outcome
         ensures { λ r. ⌜ r ≡ inA self (transmitTick (self .a)) ⌝ }
@@ -206,7 +189,7 @@ impl Chip {
         if self.a.within_block() {
             return self.in_a(self.a.tick_block());
         }
-        self.whole_a()
+        self.in_a(ticked(self.a))
     }
 
     fn transmit_b(self) -> Outcome
@@ -218,7 +201,7 @@ impl Chip {
         if self.b.within_block() {
             return self.in_b(self.b.tick_block());
         }
-        self.whole_b()
+        self.in_b(ticked(self.b))
     }
 
     // Transmit tick.
@@ -234,19 +217,25 @@ impl Chip {
         self.refused(Refusal::Channel)
     }
 
-    // A's receive tick whatever its bit does, and B's: apart, as with sending.
+    // A's receive tick whatever its bit does, and B's; the channel is copied here, as with sending.
     fn heard_a(self, bit: bool) -> Outcome
         ensures { λ r. ⌜ r ≡ inA self (answered Done (receiveTick (self .a) bit)) ⌝ }
     {
         let a = self.a;
-        self.in_a(done(a.receive_tick(bit)))
+        self.in_a(Answered {
+            answer: Answer::Done,
+            channel: a.receive_tick(bit),
+        })
     }
 
     fn heard_b(self, bit: bool) -> Outcome
         ensures { λ r. ⌜ r ≡ inB self (answered Done (receiveTick (self .b) bit)) ⌝ }
     {
         let b = self.b;
-        self.in_b(done(b.receive_tick(bit)))
+        self.in_b(Answered {
+            answer: Answer::Done,
+            channel: b.receive_tick(bit),
+        })
     }
 
     // A's receive tick, and B's; most lie inside a character.
@@ -256,11 +245,11 @@ impl Chip {
         if 2 <= bit {
             return self.refused(Refusal::Level);
         }
-        if self.a.hears_within(bit == 1) {
-            return self.in_a(done(self.a.hear_within(bit == 1)));
-        }
         if self.a.hears_block() {
-            return self.in_a(done(self.a.hear_block(bit == 1)));
+            return self.in_a(self.a.hear_block(bit == 1));
+        }
+        if self.a.hears_within(bit == 1) {
+            return self.in_a(self.a.hear_within(bit == 1));
         }
         self.heard_a(bit == 1)
     }
@@ -271,11 +260,11 @@ impl Chip {
         if 2 <= bit {
             return self.refused(Refusal::Level);
         }
-        if self.b.hears_within(bit == 1) {
-            return self.in_b(done(self.b.hear_within(bit == 1)));
-        }
         if self.b.hears_block() {
-            return self.in_b(done(self.b.hear_block(bit == 1)));
+            return self.in_b(self.b.hear_block(bit == 1));
+        }
+        if self.b.hears_within(bit == 1) {
+            return self.in_b(self.b.hear_within(bit == 1));
         }
         self.heard_b(bit == 1)
     }

@@ -154,8 +154,7 @@ fn set_wr4(mut c: Channel, v: u8) -> Channel
 {
     let m = mode_of(v);
     let same = same_mode(c.registers.mode(), m);
-    c.registers.wr4 = v;
-    c.registers.chosen = true;
+    c.registers = c.registers.with_wr4(v);
     if same {
         return c;
     }

@@ -19,7 +19,8 @@ use Rattle.shared.specs.Shared.{shared}
 use Rattle.bytesync.specs.declared.Syncs.{Syncs}
 use Rattle.bytesync.specs.declared.BlockUnit.the-variants.{Sync}
 use Rattle.bytesync.specs.declared.Syncing.{Syncing}
-use Rattle.blocks.specs.Come.{Sends, syncBits, behind, closed, waiting, toCome, Stage, atMark}
+use Rattle.whole.specs.Come.{waiting}
+use Rattle.blocks.specs.Come.{Sends, syncBits, behind, closed, toCome, Stage, atMark}
 use Rattle.blocks.specs.Come.{opening, inByte, inCheck, inTail, closing, syncLength, syncHead}
 use Rattle.blocks.specs.Laws.Sent.{sync-length, closed-length}
 use Rattle.sender.specs.declared.Sender.{Sender}
@@ -39,7 +40,8 @@ use Rattle.stories.specs.Sent.{ticks}
 use Rattle.history.specs.Sending.Side.{sendingIn}
 use Rattle.dispatch.specs.Side.{Heeded, heeded, Good, SenderSide, sideOf}
 use Rattle.dispatch.specs.Side.{syncingOf}
-use Rattle.dispatch.specs.Statement.{syncsOf, Start, blockTicks, anew, NextBlock}
+use Rattle.history.specs.Sending.Stories.{anew}
+use Rattle.dispatch.specs.Statement.{syncsOf, Start, blockTicks, NextBlock}
 use Rattle.dispatch.specs.Block.{kept, all-come}
 
 -- Where nothing is to come the closing sync has ended
@@ -61,47 +63,27 @@ pub record Ended (s : Sends) : Type 0 where
   pub unit : s .unit ≡ Sync 0 x
   pub empty : s .shared .full ≡ false
 
+-- something behind it is still to come
+not-over : (xs ys : List Bool) → 8 ≤ length ys → xs ++ ys ≡ [] → ⊥
+not-over xs ys h e = omega (arith, ap length e, length-append xs ys)
+
+not-closed : (g : Syncing) (xs : List Bool) (c : ℕ) (vs : List ℕ) → xs ++ closed g c vs [] ≡ [] → ⊥
+not-closed g xs c vs e =
+    not-over xs (closed g c vs []) (omega (arith, closed-length g c vs [])) e
+
 ended : (g : Syncing) {s : Sends} → Stage s [] [] → toCome g s [] [] ≡ [] → Ended s
-ended g (atMark b true c _ _ s) e =
-    absurd (omega (
-      arith,
-      ap length e,
-      length-append (syncBits (g .syncs)) (closed g c (b ∷ []) []),
-      closed-length g c (b ∷ []) [],
-    ))
+ended g (atMark b true c _ _ s) e = absurd (not-closed g (syncBits (g .syncs)) c (b ∷ []) e)
 ended g (atMark b false c _ _ s) e = absurd s
-ended g (opening n v b true c _ _ s) e =
-    absurd (omega (
-      arith,
-      ap length e,
-      length-append (lowBits n v) (closed g c (b ∷ []) []),
-      closed-length g c (b ∷ []) [],
-    ))
+ended g (opening n v b true c _ _ s) e = absurd (not-closed g (lowBits n v) c (b ∷ []) e)
 ended g (opening n v b false c _ _ s) e = absurd s
 ended g (inByte n v b f c _ _) e =
-    let vs = waiting (shared b f false c) [] in
-    absurd (omega (
-      arith,
-      ap length e,
-      length-append (lowBits n v) (closed g c vs []),
-      closed-length g c vs [],
-    ))
+    absurd (not-closed g (lowBits n v) c (waiting (shared b f false c) []) e)
 ended g (inCheck n v b f c _) e =
     let vs = waiting (shared b f true c) [] in
-    absurd (omega (
-      arith,
-      ap length e,
-      length-append (topBits n v) (behind g vs),
-      some-behind g vs,
-    ))
+    absurd (not-over (topBits n v) (behind g vs) (some-behind g vs) e)
 ended g (inTail n v b f c _) e =
     let vs = waiting (shared b f true c) [] in
-    absurd (omega (
-      arith,
-      ap length e,
-      length-append (lowBits n v) (behind g vs),
-      some-behind g vs,
-    ))
+    absurd (not-over (lowBits n v) (behind g vs) (some-behind g vs) e)
 ended g (closing zero v b c) e = record { x = v; unit = refl; empty = refl }
 ended g (closing (suc n) v b c) e = absurd (omega (arith, ap length e, lowBits-length (suc n) v))
 

@@ -9,12 +9,10 @@ use Rattle.blocks.specs.Come.{Sends, sends}
 use Rattle.blocks.specs.Come as come
 use Rattle.sender.specs.declared.Sender.{Sender}
 use Rattle.sender.specs.declared.Sending.{Sending}
-use Rattle.settings.specs.declared.Registers.{Registers}
-use Rattle.settings.specs.declared.Lines.{Lines}
-use Rattle.settings.specs.Settings.{sendingOf}
 use Rattle.channel.specs.declared.Channel.{Channel}
 use Rattle.chip.specs.declared.Chip.{Chip}
 use Rattle.stories.specs.Story.{Which, chan}
+use Rattle.history.specs.Sending.Side.{sendingIn}
 
 pub record Heeded : Type 0 where
   pub mode : Mode
@@ -37,11 +35,11 @@ pub record SenderSide : Type 0 where
 abbrev pub side : Sends → Heeded → SenderSide
 side s h = record { sender = s; heeds = h }
 
-abbrev pub part : Registers → Lines → Sender → SenderSide
-part r l s = side (sends (s .block) (s .shared)) (heeded (sendingOf r l))
+abbrev pub part : Sending → Sender → SenderSide
+part g s = side (sends (s .block) (s .shared)) (heeded g)
 
 abbrev pub sideIn : Channel → SenderSide
-sideIn c = part (c .registers) (c .lines) (c .sender)
+sideIn c = part (sendingIn c) (c .sender)
 
 abbrev pub sideOf : Which → Chip → SenderSide
 sideOf w c = sideIn (chan w c)

@@ -12,10 +12,11 @@ use Rattle.bytesync.specs.declared.Syncs.{Syncs}
 use Rattle.bytesync.specs.declared.BlockUnit.the-variants.{Sync, Byte, Check}
 use Rattle.blocks.specs.Come.{syncBits, inTime, syncLength, syncHead, blockBits}
 use Rattle.chip.specs.declared.Chip.{Chip}
-use Rattle.chip.specs.Event.{Event, ControlWrite, DataWrite, Transmit}
+use Rattle.chip.specs.Event.{Event, DataWrite, Transmit}
 use Rattle.stories.specs.Story.{Which, number, chan, happens, after}
 use Rattle.stories.specs.Sent.{Else, toSender, lineOf, ticks, d6}
 use Rattle.history.specs.Sending.Side.{fullOf, latchOf}
+use Rattle.history.specs.Sending.Stories.{anew}
 use Rattle.dispatch.specs.Side.{Good, sideOf, syncingOf}
 
 abbrev pub syncsOf : Which → Chip → Syncs
@@ -99,10 +100,6 @@ LatchShown =
     → CheckBegins w c (happens c (Transmit (number w)) .chip)
 
 -- Two blocks in a row
-
--- WR0, "D7-6: .. 2 preset Tx check, 3 clear Underrun latch"
-abbrev pub anew : Which → List Event
-anew w = ControlWrite (number w) 0b10000000 ∷ ControlWrite (number w) 0b11000000 ∷ []
 
 -- where a block has ended the next one starts, its check preset and the latch cleared, and its line
 -- is what follows

@@ -6,7 +6,7 @@ use text::Line;
 ghost use mathlib.Core.Path.{_≡_};
 ghost use denote.Ref.{now};
 ghost use Rattle.events.specs.Run.{foundAt, lastLine, behind, toldLine};
-ghost use Rattle.events.specs.Run.{telling, played, next};
+ghost use Rattle.events.specs.Run.{played, next};
 
 // An event's code and arguments, and the place behind it.
 pub struct Event {
@@ -114,20 +114,15 @@ fn told_line(o: Outcome) -> Line
     l
 }
 
-fn telling(l: Line, c: Chip, at: usize) -> Told
-    ensures { λ r. ⌜ r ≡ telling l c at ⌝ }
-{
-    Told {
-        line: l,
-        chip: c,
-        at: at,
-    }
-}
-
 fn played(o: Outcome, at: usize) -> Told
     ensures { λ r. ⌜ r ≡ played o at ⌝ }
 {
-    telling(told_line(o), o.chip, at)
+    let c = o.chip;
+    Told {
+        line: told_line(o),
+        chip: c,
+        at,
+    }
 }
 
 // The next line of a run, with its event played; behind the last there is nothing more.
@@ -137,6 +132,10 @@ pub fn next(c: Chip, events: &[u8], at: usize) -> Told
     let f = found_at(events, at);
     match f {
         Found::Known(e) => played(script::step(c, e.code, e.x, e.y, e.z), e.behind),
-        Found::Ended(e) => telling(last_line(e, at), c, events.len()),
+        Found::Ended(e) => Told {
+            line: last_line(e, at),
+            chip: c,
+            at: events.len(),
+        },
     }
 }

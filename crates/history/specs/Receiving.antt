@@ -3,3 +3,4 @@ pub mod Side
 pub mod Roles
 pub mod Events
 pub mod Quiet
+pub mod Stories

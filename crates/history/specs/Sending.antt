@@ -2,3 +2,4 @@
 pub mod Side
 pub mod Quiet
 pub mod Events
+pub mod Stories

@@ -28,12 +28,11 @@ use Rattle.stories.specs.Sent.{d6, isTick}
 use Rattle.history.specs.Sending.Side.{good, good-heeded, SenderSide, side, sendingIn, sideOf}
 use Rattle.history.specs.Sending.Events.{tickedOf, tick-side}
 use Rattle.timely.specs.Free.{Free}
-use Rattle.timely.specs.Free as free
 use Rattle.sending.specs.Statement.{RunsDry}
 use Rattle.sending.specs.Underrun.{underrun-seen}
 use Rattle.hosts.specs.Loaded.{senderOf, loads, loaded, idles, onMore, passed, flags, closed}
 use Rattle.hosts.specs.Loaded.{Host}
-use Rattle.hosts.specs.Loaded.{rests, still, writes, ticking}
+use Rattle.history.specs.Sending.Stories.{ended, still, writes, ticking}
 use Rattle.hosts.specs.Steps.{inCheck}
 use Rattle.hosts.specs.Statement.{FedLate, IncidentTold, NoIncident}
 use Rattle.hosts.specs.Line.{tick-loaded, tick-passed, kept, every-host}
@@ -41,16 +40,16 @@ use Rattle.hosts.specs.Line.{tick-loaded, tick-passed, kept, every-host}
 -- Joining stories
 
 pub host-free : (w : Which) {c : Chip} {st : List Event} → Host w c st → Free w c st
-host-free w rests = free.ended
-host-free w (still r k h) = free.still r k (host-free w h)
-host-free w (writes h) = free.writes (host-free w h)
-host-free w (ticking e h) = free.ticking (host-free w h)
+host-free w ended = ended
+host-free w (still r k h) = still r k (host-free w h)
+host-free w (writes h) = writes (host-free w h)
+host-free w (ticking e h) = ticking tt (host-free w h)
 
 pub host-join : (w : Which) {c : Chip} {xs : List Event} (ys : List Event) → Host w c xs
     → Host w (after c xs) ys
     → Host w c (xs ++ ys)
 unfolding after
-host-join w ys rests h = h
+host-join w ys ended h = h
 host-join w ys (still r k i) h = still r k (host-join w ys i h)
 host-join w ys (writes i) h = writes (host-join w ys i h)
 host-join w ys (ticking e i) h = ticking e (host-join w ys i h)

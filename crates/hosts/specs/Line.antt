@@ -29,11 +29,11 @@ use Rattle.history.specs.Sending.Events.{tickedOf, tick-side, tick-bit, tick-co
 use Rattle.history.specs.Sending.Events.{write-side}
 use Rattle.history.specs.Sending.Events.{write-no-tick, skip-line, skip-ticks}
 use Rattle.timely.specs.Start.{start-side}
-use Rattle.timely.specs.Free as free
 use Rattle.sending.specs.Frame.{sent-length}
 use Rattle.hosts.specs.Loaded.{senderOf, leaves, loads, loaded, idles, onMore, passed, flags}
 use Rattle.hosts.specs.Loaded.{closed}
-use Rattle.hosts.specs.Loaded.{Host, rests, still, writes, ticking}
+use Rattle.hosts.specs.Loaded.{Host}
+use Rattle.history.specs.Sending.Stories.{ended, still, writes, ticking}
 use Rattle.hosts.specs.Steps.{Going, opening, inByte, inCheck, closing, ahead, May, unopened}
 use Rattle.hosts.specs.Steps.{flagLeft}
 use Rattle.hosts.specs.Steps.{steps}
@@ -131,7 +131,7 @@ skip w c x st s t z m a u f k =
 pub kept : (w : Which) {c : Chip} {st : List Event} → Host w c st → (s : Framer)
     → sideOf w c ≡ side s good → Going s → Kept w c st s
 unfolding lineOf after loaded passed ticks
-kept w rests s e g = record {
+kept w ended s e g = record {
   last = s;
   there = e;
   going = g;
@@ -298,22 +298,22 @@ front-more w c x st i h = record {
 
 pub host-front : HostFront
 unfolding after
-host-front w c _ free.ended =
-    record { front = []; behind = []; joined = refl; host = rests; ended = λ e. refl }
-host-front w c _ (free.still {e = x} {st = st} r k f) =
+host-front w c _ ended =
+    record { front = []; behind = []; joined = refl; host = ended; ended = λ e. refl }
+host-front w c _ (still {e = x} {st = st} r k f) =
     let i = host-front w (happens c x .chip) st f in front-more w c x st i (still r k (i .host))
-host-front w c _ (free.writes {v = v} {st = st} f) =
+host-front w c _ (writes {v = v} {st = st} f) =
     let x = DataWrite (number w) v in
     let i = host-front w (happens c x .chip) st f in
     front-more w c x st i (writes (i .host))
-host-front w c _ (free.ticking {st = st} f) =
+host-front w c _ (ticking {st = st} m f) =
     let x = Transmit (number w) in
     bool-or (closed w c)
     (λ z. record {
       front = [];
       behind = x ∷ st;
       joined = refl;
-      host = rests;
+      host = ended;
       ended = λ e. void
           (sym e ∙ z);
     })

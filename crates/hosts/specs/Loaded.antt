@@ -10,11 +10,12 @@ use Rattle.sdlc.specs.declared.LineUnit.{LineUnit}
 use Rattle.sdlc.specs.declared.LineUnit.the-variants.{Mark, Flag, Byte, Check, Abort}
 use Rattle.sdlc.specs.declared.Framer.{Framer}
 use Rattle.chip.specs.declared.Chip.{Chip}
-use Rattle.chip.specs.Event.{Event, DataWrite, Transmit}
+use Rattle.chip.specs.Event.{Event}
 use Rattle.whole.specs.Start.{frameEnded}
-use Rattle.stories.specs.Story.{Which, number, happens}
-use Rattle.stories.specs.Sent.{Else, toSender, isTick}
+use Rattle.stories.specs.Story.{Which, happens}
+use Rattle.stories.specs.Sent.{isTick}
 use Rattle.history.specs.Sending.Side.{sideOf}
+use Rattle.history.specs.Sending.Stories.{TicksWhere}
 
 abbrev pub senderOf : Which → Chip → Framer
 senderOf w c = sideOf w c .sender
@@ -70,13 +71,5 @@ closed w c = frameEnded (senderOf w c)
 
 -- Every host: it ticks and writes as it likes, in time or not, one byte over another, until the
 -- closing flag is out; all else leaves the sender's side as it is
-pub data Host (w : Which) : Chip → List Event → Type 0 where
-  rests : {c : Chip} → Host w c []
-  still : {c : Chip} {e : Event} {st : List Event} → toSender w e ≡ Else
-      → sideOf w (happens c e .chip) ≡ sideOf w c → Host w (happens c e .chip) st
-      → Host w c (e ∷ st)
-  writes : {c : Chip} {v : ℕ} {st : List Event}
-      → Host w (happens c (DataWrite (number w) v) .chip) st
-      → Host w c (DataWrite (number w) v ∷ st)
-  ticking : {c : Chip} {st : List Event} → closed w c ≡ false
-      → Host w (happens c (Transmit (number w)) .chip) st → Host w c (Transmit (number w) ∷ st)
+abbrev pub Host : Which → Chip → List Event → Type 0
+Host w c st = TicksWhere (λ d. closed w d ≡ false) w c st

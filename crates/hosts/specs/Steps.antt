@@ -1,7 +1,7 @@
 -- One tick of a sender within a frame, whatever waits in its buffer: what comes on the line is
 -- given by the bytes that will be loaded and by the flags that will pass before the first of them.
 -- Assumes nothing.
-use mathlib.Core.Path.{_≡_, refl, sym, ap, _∙_}
+use mathlib.Core.Path.{_≡_, refl, sym, ap, ap₂, _∙_, subst}
 use mathlib.Core.Bool.{Bool, true, false, not, _&&_}
 use mathlib.Core.List.{List, [], _∷_, _++_}
 use Prim.Native.Nat.{ℕ, zero, suc, _+_, _*_, _/_, _≤_}
@@ -14,6 +14,7 @@ use Rattle.line.specs.Check.{sdlc, top, shifted, complement, checkOver, topBits
 use Rattle.line.specs.Insertion.{owes, runAfter, zeroIf, stuff}
 use Rattle.line.specs.Frame.{flagBits}
 use Rattle.line.specs.declared.Insertion.{Insertion}
+use Rattle.shared.specs.declared.Shared.{Shared}
 use Rattle.shared.specs.Shared.{shared}
 use Rattle.sdlc.specs.declared.LineUnit.{LineUnit}
 use Rattle.sdlc.specs.declared.LineUnit.the-variants.{Mark, Flag, Byte, Check, Abort}
@@ -26,7 +27,7 @@ use Rattle.whole.specs.Come.{good, flagTail, waiting}
 use Rattle.whole.specs.Come as come
 use Rattle.whole.specs.Start.{frameEnded}
 use Rattle.whole.specs.Laws.Come.{stuffed, load, byte-on, check-starts}
-use Rattle.hosts.specs.Loaded.{leaves, idles, onMore, flags}
+use Rattle.hosts.specs.Loaded.{byteIf, leaves, flagOver, idles, onMore, flags}
 
 -- the senders of a frame
 pub data Going : Framer → Type 0 where
@@ -104,39 +105,64 @@ pub record Steps (s : Framer) : Type 0 where
       → flagLeft (s .unit) ≤ 7 → 8 * onMore (idles s) n + flagLeft (s .unit) ≤ suc t + 7
   pub first : unopened s ≡ true → unopened next ≡ false → leaves s next ≡ s .shared .buffer ∷ []
 
+-- A tick that leaves the buffer and the latch as they are, and lets no flag pass
+
+pub none-leaves : (full : Bool) (b : ℕ) → byteIf (full && not full) b ≡ []
+none-leaves true b = refl
+none-leaves false b = refl
+
+pub none-passes : (latch full over : Bool) → (latch ≡ false → over ≡ false)
+    → not latch && (not full && over) ≡ false
+none-passes true full over h = refl
+none-passes false true over h = refl
+none-passes false false over h = h refl
+
+module _ (u v : LineUnit) (i j : Insertion) (x : Shared) (sent : Bool)
+    (ticks : tickSdlc good (framer u i x) ≡ framed sent false (framer v j x))
+    (going : Going (framer v j x)) (within : x .latch ≡ false → flagOver u ≡ false)
+    (may-be : (n : ℕ) (bytes : List ℕ) → may (x .latch) n bytes v → may (x .latch) n bytes u)
+    (head : (n : ℕ) (bytes : List ℕ) → may (x .latch) n bytes v
+    → comes i (x .latch) (x .check) n bytes u ≡ sent ∷ comes j (x .latch) (x .check) n bytes v)
+    (inside : flagLeft u ≤ 7 → flagLeft v ≤ 7) (one-less : flagLeft u ≤ suc (flagLeft v))
+    (opens : unopened (framer u i x) ≡ true → unopened (framer v j x) ≡ false → ⊥) where
+  abbrev was : Framer
+  was = framer u i x
+
+  abbrev is : Framer
+  is = framer v j x
+
+  kept-buffer : Steps was
+  kept-buffer =
+      let none : leaves was is ≡ [] = none-leaves (x .full) (x .buffer) in
+      let same : idles was ≡ false =
+      none-passes (x .latch) (x .full) (flagOver u) within in
+      record {
+        sent = sent;
+        load = false;
+        next = is;
+        ticks = ticks;
+        going = going;
+        may-be = λ n bytes m.
+            subst (λ (p : Bool). May was (onMore p n) (leaves was is ++ bytes)) (sym same)
+            (subst (λ (l : List ℕ). May was n (l ++ bytes)) (sym none) (may-be n bytes m));
+        head = λ n bytes m.
+            ap₂ (λ (p : Bool) (l : List ℕ). ahead was (onMore p n) (l ++ bytes)) same none
+            ∙ head n bytes m;
+        kept = λ rest h. ap (λ (l : List ℕ). l ++ meant is rest) none;
+        inside = inside;
+        few = λ n t bytes m l h.
+            subst (λ (p : Bool). 8 * onMore p n + flagLeft u ≤ suc t + 7) (sym same)
+            (omega (arith, one-less));
+        first = λ o p. absurd (opens o p);
+      }
+
 pub steps : {s : Framer} → Going s → frameEnded s ≡ false → Steps s
 unfolding flags
-steps (opening (suc k) b true c) e =
-    let x = shared b true false c in
-    record {
-      sent = flagBit (suc k);
-      load = false;
-      next = framer (Flag k) notCounted x;
-      ticks = tick-flag good x k 0;
-      going = opening k b true c;
-      may-be = λ n bytes m. tt;
-      head = λ n bytes m. refl;
-      kept = λ rest h. refl;
-      inside = λ h. omega arith;
-      few = λ n t bytes m l h. omega arith;
-      first = λ o u. void (sym u);
-    }
-steps (opening (suc k) b false c) e =
-    let x = shared b false false c in
-    let z = eqb·suc-zero k in
-    record {
-      sent = flagBit (suc k);
-      load = false;
-      next = framer (Flag k) notCounted x;
-      ticks = tick-flag good x k 0;
-      going = opening k b false c;
-      may-be = λ n bytes m. tt;
-      head = λ n bytes m. rw z;
-      kept = λ rest h. refl;
-      inside = λ h. omega arith;
-      few = λ n t bytes m l h. rw z (omega arith);
-      first = λ o u. void (sym u);
-    }
+steps (opening (suc k) b f c) e =
+    let x = shared b f false c in
+    kept-buffer (Flag (suc k)) (Flag k) notCounted notCounted x (flagBit (suc k))
+    (tick-flag good x k 0) (opening k b f c) (λ l. eqb·suc-zero k) (λ n bytes m. tt)
+    (λ n bytes m. refl) (λ h. omega arith) (omega arith) (λ o p. void (sym p))
 steps (opening zero b true c) e =
     let x = shared b true false c in
     let d = checkOver sdlc c (lowBits 8 b) in
@@ -171,68 +197,17 @@ steps (opening zero b false c) e =
       few = λ n t bytes m l h. omega arith;
       first = λ o u. void (sym u);
     }
-steps (inByte k v r true b true c) e =
-    let x = shared b true false c in
-    record {
-      sent = false;
-      load = false;
-      next = framer (Byte k v) (insertion r false) x;
-      ticks = tick-owed good x (Byte k v) r;
-      going = inByte k v r false b true c;
-      may-be = λ n bytes m. m;
-      head = λ n bytes m. refl;
-      kept = λ rest h. refl;
-      inside = λ h. omega arith;
-      few = λ n t bytes m l h. omega (arith, m);
-      first = λ o u. void o;
-    }
-steps (inByte k v r true b false c) e =
-    let x = shared b false false c in
-    record {
-      sent = false;
-      load = false;
-      next = framer (Byte k v) (insertion r false) x;
-      ticks = tick-owed good x (Byte k v) r;
-      going = inByte k v r false b false c;
-      may-be = λ n bytes m. m;
-      head = λ n bytes m. refl;
-      kept = λ rest h. refl;
-      inside = λ h. omega arith;
-      few = λ n t bytes m l h. omega (arith, m);
-      first = λ o u. void o;
-    }
-steps (inByte (suc k) v r false b true c) e =
-    let x = shared b true false c in
+steps (inByte k v r true b f c) e =
+    let x = shared b f false c in
+    kept-buffer (Byte k v) (Byte k v) (insertion r true) (insertion r false) x false
+    (tick-owed good x (Byte k v) r) (inByte k v r false b f c) (λ l. refl) (λ n bytes m. m)
+    (λ n bytes m. refl) (λ h. h) (omega arith) (λ o p. void o)
+steps (inByte (suc k) v r false b f c) e =
+    let x = shared b f false c in
     let i = insertion (runAfter r (odd v)) (owes r (odd v)) in
-    record {
-      sent = odd v;
-      load = false;
-      next = framer (Byte k (v / 2)) i x;
-      ticks = tick-byte good x k v r;
-      going = inByte k (v / 2) (i .run) (i .owed) b true c;
-      may-be = λ n bytes m. m;
-      head = λ n bytes m. byte-on r c k v bytes;
-      kept = λ rest h. refl;
-      inside = λ h. omega arith;
-      few = λ n t bytes m l h. omega (arith, m);
-      first = λ o u. void o;
-    }
-steps (inByte (suc k) v r false b false c) e =
-    let x = shared b false false c in
-    let i = insertion (runAfter r (odd v)) (owes r (odd v)) in
-    record {
-      sent = odd v;
-      load = false;
-      next = framer (Byte k (v / 2)) i x;
-      ticks = tick-byte good x k v r;
-      going = inByte k (v / 2) (i .run) (i .owed) b false c;
-      may-be = λ n bytes m. m;
-      head = λ n bytes m. byte-on r c k v bytes;
-      kept = λ rest h. refl;
-      inside = λ h. omega arith;
-      few = λ n t bytes m l h. omega (arith, m);
-      first = λ o u. void o;
-    }
+    kept-buffer (Byte (suc k) v) (Byte k (v / 2)) (insertion r false) i x (odd v)
+    (tick-byte good x k v r) (inByte k (v / 2) (i .run) (i .owed) b f c) (λ l. refl)
+    (λ n bytes m. m) (λ n bytes m. byte-on r c k v bytes) (λ h. h) (omega arith) (λ o p. void o)
 steps (inByte zero v r false b true c) e =
     let x = shared b true false c in
     let d = checkOver sdlc c (lowBits 8 b) in
@@ -268,126 +243,28 @@ steps (inByte zero v r false b false c) e =
       few = λ n t bytes m l h. omega (arith, m .0);
       first = λ o u. void o;
     }
-steps (inCheck k v r true b true c) e =
-    let x = shared b true true c in
-    record {
-      sent = false;
-      load = false;
-      next = framer (Check k v) (insertion r false) x;
-      ticks = tick-owed good x (Check k v) r;
-      going = inCheck k v r false b true c;
-      may-be = λ n bytes m. m;
-      head = λ n bytes m. refl;
-      kept = λ rest h. refl;
-      inside = λ h. omega arith;
-      few = λ n t bytes m l h. omega (arith, m .0);
-      first = λ o u. void o;
-    }
-steps (inCheck (suc k) v r false b true c) e =
-    let x = shared b true true c in
+steps (inCheck k v r true b f c) e =
+    let x = shared b f true c in
+    kept-buffer (Check k v) (Check k v) (insertion r true) (insertion r false) x false
+    (tick-owed good x (Check k v) r) (inCheck k v r false b f c) (λ l. refl) (λ n bytes m. m)
+    (λ n bytes m. refl) (λ h. h) (omega arith) (λ o p. void o)
+steps (inCheck (suc k) v r false b f c) e =
+    let x = shared b f true c in
     let i = insertion (runAfter r (top v)) (owes r (top v)) in
-    record {
-      sent = top v;
-      load = false;
-      next = framer (Check k (shifted v)) i x;
-      ticks = tick-check good x k v r;
-      going = inCheck k (shifted v) (i .run) (i .owed) b true c;
-      may-be = λ n bytes m. m;
-      head = λ n bytes m. unfold topBits in (stuffed r (top v) (topBits k (shifted v)) flagBits);
-      kept = λ rest h. refl;
-      inside = λ h. omega arith;
-      few = λ n t bytes m l h. omega (arith, m .0);
-      first = λ o u. void o;
-    }
-steps (inCheck zero v r false b true c) e =
-    let x = shared b true true c in
-    record {
-      sent = false;
-      load = false;
-      next = framer (Flag 7) notCounted x;
-      ticks = tick-chooses good r x (Check 0 v) refl ∙ next-check good r x refl 0 v;
-      going = closing 7 b true c;
-      may-be = λ n bytes m. m;
-      head = λ n bytes m. unfold topBits stuff in refl;
-      kept = λ rest h. refl;
-      inside = λ h. omega arith;
-      few = λ n t bytes m l h. omega (arith, m .0);
-      first = λ o u. void o;
-    }
-steps (closing (suc k) b true c) e =
-    let x = shared b true true c in
-    record {
-      sent = flagBit (suc k);
-      load = false;
-      next = framer (Flag k) notCounted x;
-      ticks = tick-flag good x k 0;
-      going = closing k b true c;
-      may-be = λ n bytes m. m;
-      head = λ n bytes m. refl;
-      kept = λ rest h. refl;
-      inside = λ h. omega arith;
-      few = λ n t bytes m l h. omega (arith, m .0);
-      first = λ o u. void o;
-    }
-steps (inCheck k v r true b false c) e =
-    let x = shared b false true c in
-    record {
-      sent = false;
-      load = false;
-      next = framer (Check k v) (insertion r false) x;
-      ticks = tick-owed good x (Check k v) r;
-      going = inCheck k v r false b false c;
-      may-be = λ n bytes m. m;
-      head = λ n bytes m. refl;
-      kept = λ rest h. refl;
-      inside = λ h. omega arith;
-      few = λ n t bytes m l h. omega (arith, m .0);
-      first = λ o u. void o;
-    }
-steps (inCheck (suc k) v r false b false c) e =
-    let x = shared b false true c in
-    let i = insertion (runAfter r (top v)) (owes r (top v)) in
-    record {
-      sent = top v;
-      load = false;
-      next = framer (Check k (shifted v)) i x;
-      ticks = tick-check good x k v r;
-      going = inCheck k (shifted v) (i .run) (i .owed) b false c;
-      may-be = λ n bytes m. m;
-      head = λ n bytes m. unfold topBits in (stuffed r (top v) (topBits k (shifted v)) flagBits);
-      kept = λ rest h. refl;
-      inside = λ h. omega arith;
-      few = λ n t bytes m l h. omega (arith, m .0);
-      first = λ o u. void o;
-    }
-steps (inCheck zero v r false b false c) e =
-    let x = shared b false true c in
-    record {
-      sent = false;
-      load = false;
-      next = framer (Flag 7) notCounted x;
-      ticks = tick-chooses good r x (Check 0 v) refl ∙ next-check good r x refl 0 v;
-      going = closing 7 b false c;
-      may-be = λ n bytes m. m;
-      head = λ n bytes m. unfold topBits stuff in refl;
-      kept = λ rest h. refl;
-      inside = λ h. omega arith;
-      few = λ n t bytes m l h. omega (arith, m .0);
-      first = λ o u. void o;
-    }
-steps (closing (suc k) b false c) e =
-    let x = shared b false true c in
-    record {
-      sent = flagBit (suc k);
-      load = false;
-      next = framer (Flag k) notCounted x;
-      ticks = tick-flag good x k 0;
-      going = closing k b false c;
-      may-be = λ n bytes m. m;
-      head = λ n bytes m. refl;
-      kept = λ rest h. refl;
-      inside = λ h. omega arith;
-      few = λ n t bytes m l h. omega (arith, m .0);
-      first = λ o u. void o;
-    }
+    kept-buffer (Check (suc k) v) (Check k (shifted v)) (insertion r false) i x (top v)
+    (tick-check good x k v r) (inCheck k (shifted v) (i .run) (i .owed) b f c) (λ l. refl)
+    (λ n bytes m. m)
+    (λ n bytes m. unfold topBits in (stuffed r (top v) (topBits k (shifted v)) flagBits))
+    (λ h. h) (omega arith) (λ o p. void o)
+steps (inCheck zero v r false b f c) e =
+    let x = shared b f true c in
+    kept-buffer (Check 0 v) (Flag 7) (insertion r false) notCounted x false
+    (tick-chooses good r x (Check 0 v) refl ∙ next-check good r x refl 0 v) (closing 7 b f c)
+    (λ l. refl) (λ n bytes m. m) (λ n bytes m. unfold topBits stuff in refl) (λ h. omega arith)
+    (omega arith) (λ o p. void o)
+steps (closing (suc k) b f c) e =
+    let x = shared b f true c in
+    kept-buffer (Flag (suc k)) (Flag k) notCounted notCounted x (flagBit (suc k))
+    (tick-flag good x k 0) (closing k b f c) (λ l. void (sym l)) (λ n bytes m. m)
+    (λ n bytes m. refl) (λ h. omega arith) (omega arith) (λ o p. void o)
 steps (closing zero b f c) e = void (sym e)

@@ -1,19 +1,38 @@
-// A station opens a note's frame on channel A of a chip: a flag has ended, the check is preset, the latch cleared and the first byte written. Before a
-// next note a flag of its own goes out, if that is how notes follow each other. Assumes nothing.
-use calling::CLEAR_LATCH;
-use calling::PRESET_CHECK;
-use calling::control;
-use calling::ticked;
-use calling::write;
+// A station opens a note's frame on channel A of a chip, whatever that was doing: a flag has ended, the check is preset, the latch cleared and the
+// first byte written. Its SDLC sender, fed on its own from there on, is put back. Assumes nothing.
+mod calling;
+mod putback;
+mod ready;
+
+use crate::calling::CLEAR_LATCH;
+use crate::calling::PRESET_CHECK;
+use crate::calling::control;
+use crate::calling::write;
+use crate::putback::channel_with;
+use crate::ready::prepared;
 use chip::Chip;
-use flags::Between;
 use flags::FLAG;
-use ready::prepared;
+use sdlc::Framer;
 use sdlc::LineUnit;
 ghost use mathlib.Core.Path.{_≡_};
+ghost use mathlib.Core.List.{[]};
 ghost use Prim.Native.Nat.{_<_};
-ghost use Rattle.drive.specs.Drive.{ticksToFlag, flagEnded, frameOpened};
-ghost use Rattle.listline.specs.ListLine.{beforeNote};
+ghost use Rattle.drive.specs.Drive.{driven, ticksToFlag, flagEnded, frameOpened};
+ghost use Rattle.drive.specs.Framer.{chipWith};
+
+// So many transmit ticks, with nothing to write, by the channel's own method: a station ticks no other channel.
+pub fn ticked(mut c: Chip, n: usize) -> Chip
+    ensures { λ r. ⌜ r ≡ driven n c [] ⌝ }
+{
+    let mut left = n;
+    while 0 < left {
+        let o = c.a.transmit_tick();
+        let a = o.channel;
+        c.a = a;
+        left = left - 1;
+    }
+    c
+}
 
 // A count of bits, wide.
 fn wide(n: u8) -> usize
@@ -54,12 +73,10 @@ pub fn open_frame(c: Chip, v: u8) -> Chip
     write(control(d, CLEAR_LATCH), v)
 }
 
-// The chip before a note, so many having gone.
-pub fn before_note(c: Chip, between: Between, gone: usize) -> Chip
-    ensures { λ r. ⌜ r ≡ beforeNote between gone c ⌝ }
+// A chip after ticks and data writes of A's SDLC sender alone, which has come to this.
+pub fn chip_with(mut c: Chip, f: Framer) -> Chip
+    ensures { λ r. ⌜ r ≡ chipWith c f ⌝ }
 {
-    if gone == 0 {
-        return c;
-    }
-    ticked(c, between.own_flag())
+    c.a = channel_with(c.a, f);
+    c
 }

@@ -1,5 +1,5 @@
 -- In time by the eight-tick rule means that what is loaded is what was written. Assumes nothing.
-use mathlib.Core.Path.{_≡_, refl, sym, ap, ap₂, _∙_}
+use mathlib.Core.Path.{_≡_, refl, sym, ap, _∙_}
 use mathlib.Core.Bool.{Bool, true, false}
 use mathlib.Core.List.{List, [], _∷_, _++_, append-assoc, append-nil}
 use Prim.Native.Nat.{ℕ, zero, suc, _+_, _≤_}
@@ -11,24 +11,23 @@ use Rattle.line.specs.Frame.{frame}
 use Rattle.line.specs.Laws.Frame.{ticks-are}
 use Rattle.sdlc.specs.declared.Framer.{Framer}
 use Rattle.sdlc.specs.declared.Framed.{Framed}
-use Rattle.sdlc.specs.Sending.{tickSdlc}
 use Rattle.chip.specs.declared.Chip.{Chip}
 use Rattle.chip.specs.Event.{Event, DataWrite, Transmit}
 use Rattle.whole.specs.Come.{toCome, filledWith}
-use Rattle.whole.specs.Come as come
-use Rattle.whole.specs.Stage.{sinceAfter, inTime, Stage, opening, inByte, inCheck, closing}
+use Rattle.whole.specs.Stage.{inTime, Stage, opening, inByte, inCheck, closing}
 use Rattle.whole.specs.Start.{started, flagHead, frameEnded}
-use Rattle.whole.specs.Laws.Come.{takes, moves, later, too-late}
+use Rattle.whole.specs.Laws.Come.{moves, later, too-late}
 use Rattle.whole.specs.Laws.Start.{head-length, at-start, start-stage, ended-none, unended-some}
 use Rattle.stories.specs.Story.{Which, number, chan, happens, after}
 use Rattle.stories.specs.Sent.{ticksBy, isTick, ticks}
-use Rattle.history.specs.Sending.Side.{good, SenderSide, side, sideOf, fullOf}
-use Rattle.history.specs.Sending.Events.{tickedOf, tick-side, tick-more, write-side, write-no-tick}
+use Rattle.history.specs.Sending.Side.{good, SenderSide, side, sideOf}
+use Rattle.history.specs.Sending.Events.{tick-more, write-side, write-no-tick}
 use Rattle.history.specs.Sending.Events.{skip-ticks}
 use Rattle.timely.specs.Start.{start-side}
 use Rattle.timely.specs.InTime.{InTime, over, still, writes, next-frame, ticking}
+use Rattle.sending.specs.Frame.{tick-taken}
 use Rattle.hosts.specs.Loaded.{senderOf, leaves, loaded, idles, onMore, passed, Host}
-use Rattle.hosts.specs.Loaded as hosts
+use Rattle.history.specs.Sending.Stories as hosts
 use Rattle.hosts.specs.Steps.{Going, meant, steps}
 use Rattle.hosts.specs.Steps as steps
 use Rattle.punctual.specs.Statement.{InTimeLoads}
@@ -125,7 +124,7 @@ loads w (over {n = n}) s e g l = record {
   since = n;
   there = e;
   stage = g;
-  host = hosts.rests;
+  host = hosts.ended;
   none = refl;
   bytes = refl;
   short = omega arith;
@@ -153,25 +152,18 @@ loads w {left} (next-frame {c = c} {v = v} {st = st} f i) s e g l =
     (omega (arith, ap length (y .0), skip-ticks w x st z)))
 loads w {left} (ticking {c = c} {n = n} {rest = rest} {st = st} f i) s e g l =
     let o = tick-more w st in
-    let h = ap (λ (x : SenderSide). x .heeds) e in
     let was : senderOf w c ≡ s = ap (λ (x : SenderSide). x .sender) e in
-    let timely = ap (λ (x : SenderSide). inTime (x .sender .shared .full) n rest) (sym e) ∙ f in
-    let t = takes g timely (omega arith) in
+    let taken = tick-taken w c s n rest e g f (omega arith) in
+    let t = taken .took in
     let open-yet : frameEnded s ≡ false =
     bool-or (frameEnded s) (λ z. absurd (omega (arith, ended-none g z))) (λ z. z) in
     let u = steps (stage-going g) open-yet in
     let d = happens c (Transmit (number w)) .chip in
     let same : t .next ≡ u .next = ap (λ (x : Framed). x .framer) (sym (t .ticks) ∙ u .ticks) in
-    let ticked : tickedOf w c ≡ tickSdlc come.good s = ap (tickSdlc come.good) was in
-    let y : sideOf w d ≡ side (t .next) good =
-    tick-side w c h ∙ ap (λ (x : Framed). side (x .framer) good) (ticked ∙ t .ticks) in
-    let q : sinceAfter (s .shared .full) (t .next .shared .full) n
-    ≡ sinceAfter (fullOf w c) (fullOf w d) n =
-    ap₂ (λ (x y : SenderSide). sinceAfter (x .sender .shared .full) (y .sender .shared .full) n)
-    (sym e) (sym y) in
-    let stage = rw q at (t .stage) in
-    let m = loads w i (t .next) y stage (omega (arith, ap length (t .head))) in
-    let next : senderOf w d ≡ t .next = ap (λ (x : SenderSide). x .sender) y in
+    let there = taken .there in
+    let stage = taken .stage in
+    let m = loads w i (t .next) there stage (omega (arith, ap length (t .head))) in
+    let next : senderOf w d ≡ t .next = ap (λ (x : SenderSide). x .sender) there in
     let kept : leaves s (t .next) ++ meant (t .next) rest ≡ meant s rest =
     ap (λ (x : Framer). leaves s x ++ meant x rest) same
     ∙ u .kept rest (λ a b. latched-none stage (ap (λ (x : Framer). x .shared .latch) same ∙ a)) in
@@ -182,7 +174,8 @@ loads w {left} (ticking {c = c} {n = n} {rest = rest} {st = st} f i) s e g l =
       stage = m .stage;
       host = hosts.ticking (ap frameEnded was ∙ open-yet) (m .host);
       none =
-          tick-passed w c st s was ∙ ap (λ (b : Bool). onMore b (passed w d st)) (not-idle g timely)
+          tick-passed w c st s was
+          ∙ ap (λ (b : Bool). onMore b (passed w d st)) (not-idle g (taken .timely))
           ∙ m .none;
       bytes =
           ap (λ (b : List ℕ). b ++ meant (m .last) left) (tick-loaded w c st s (t .next) was next)

@@ -81,19 +81,13 @@ impl Queue {
         }
         let a = self.entries[1];
         let es = [a, self.entries[2], Entry::none()];
-        if n == 1 {
-            return Queue {
-                entries: es,
-                count: 0,
-                parity: self.parity,
-                overrun: self.overrun,
-            };
-        }
+        // the next one becomes the oldest, if one waits
+        let next = n != 1;
         Queue {
             entries: es,
             count: n - 1,
-            parity: a.parity | self.parity,
-            overrun: a.overrun | self.overrun,
+            parity: (next & a.parity) | self.parity,
+            overrun: (next & a.overrun) | self.overrun,
         }
     }
 

@@ -31,8 +31,8 @@ pub struct Receiving {
 // What SDLC has heard of a frame, the asynchronous character, what Monosync and Bisync have heard of a block, and what all modes share: the
 // check, and RR0 D7.
 pub struct Receiver {
-    pub content: Content,
     pub assembly: Assembly,
+    pub content: Content,
     pub reception: Reception,
     pub check: u16,
     pub broken: bool,

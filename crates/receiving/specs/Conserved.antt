@@ -18,9 +18,10 @@ use Rattle.chip.specs.Event.{Event}
 use Rattle.stories.specs.Story.{Which, chan, happens, after}
 use Rattle.stories.specs.Received.{ToReceiver, bitIn, bitsOf, isRead, taking, tookOf}
 use Rattle.history.specs.Receiving.Side.{Heeded, Side, side, sideOf}
-use Rattle.receiving.specs.Statement.{roomFor, Fed, over, hears, reads, still}
-use Rattle.history.specs.Receiving.Events.{queuedBy, queue-takes, heardSide, readSide, Follows}
-use Rattle.history.specs.Receiving.Events.{Hearing, follows}
+use Rattle.history.specs.Receiving.Stories.{over, hears, reads, still}
+use Rattle.receiving.specs.Statement.{roomy, Fed}
+use Rattle.history.specs.Receiving.Events.{queuedIf, roomIf, queue-takes, heardSide, readSide}
+use Rattle.history.specs.Receiving.Events.{Follows, Hearing, follows}
 
 -- at the end of a story: the side, and, whatever bits follow, the whole of what is handed over
 pub record Conserved (w : Which) (c : Chip) (st : List Event) (s : Listener) (g : Heeded)
@@ -90,11 +91,10 @@ conserved w (hears {c = c} {e = x} {st = st} {b = b} r k i) s q g es d e h =
     let f : sideOf w (happens c x .chip) ≡ heardSide b (sideOf w c) =
     subst (Follows w c (happens c x .chip)) r
     (follows w c x (subst Hearing (sym (ap (λ (y : Side). y .settings) e)) d)) in
-    let space : roomFor q H ≡ true =
-    ap (λ (y : Side). roomFor (y .queue) (hearSdlc (y .settings .addressing) (y .listener) b))
-    (sym e) ∙ k in
+    let space : roomIf (H .some) q ≡ true = ap (λ (y : Side). roomy y b) (sym e) ∙ k in
     let m =
-    conserved w i (H .listener) (queuedBy q H) g (es ++ handed H) d (f ∙ ap (heardSide b) e)
+    conserved w i (H .listener) (queuedIf (H .some) q (H .entry)) g (es ++ handed H) d
+    (f ∙ ap (heardSide b) e)
     (queue-takes (H .some) (H .entry) h space (hear-plain (g .addressing) s b)) in
     record {
       last = m .last;

@@ -40,7 +40,8 @@ use Rattle.stories.specs.Story.{Which, A, B, number, chan, happens, after}
 use Rattle.stories.specs.Received.{toReceiver, bitIn, bitsOf, valuesOf, tookOf, bytesOf}
 use Rattle.stories.specs.Received.{goodEnd, noEnd}
 use Rattle.history.specs.Receiving.Side.{Heeded, Side, sideOf}
-use Rattle.receiving.specs.Statement.{Listening, Fed, over, hears, reads, still, Received}
+use Rattle.history.specs.Receiving.Stories.{over, hears, reads, still}
+use Rattle.receiving.specs.Statement.{Listening, Fed, Received}
 use Rattle.receiving.specs.Statement.{Demand2, Moment, Always2, Mark2, Notes2}
 use Rattle.history.specs.Receiving.Events.{Hearing, bytes-append, values-are}
 use Rattle.receiving.specs.Conserved.{Conserved, conserved}

@@ -3,20 +3,18 @@
 -- untouched, gives back its bytes, its check and a good mark." Said of either channel of any chip,
 -- over stories in which everything else may happen too. Assumes nothing.
 use mathlib.Core.Path.{_≡_}
-use mathlib.Core.Bool.{Bool, true, false, not, _||_}
-use mathlib.Core.List.{List, [], _∷_, _++_}
+use mathlib.Core.Bool.{Bool, true, false, not}
+use mathlib.Core.List.{List, _∷_, _++_}
 use Prim.Native.Nat.{ℕ, _+_, _≤_}
-use lib.Dec.{eqb, ltb}
+use lib.Dec.{eqb}
 use lib.ListN.{length}
 use Rattle.common.specs.Choice.{if_then_else_}
 use Rattle.common.specs.declared.Mode.the-variants.{Sdlc}
 use Rattle.line.specs.Frame.{flagBits, contentOf, frame, withCheck}
 use Rattle.line.specs.Bits.{Below}
 use Rattle.entry.specs.declared.Entry.{Entry}
-use Rattle.queue.specs.declared.Queue.{Queue}
 use Rattle.queue.specs.Queue.{room, waits}
 use Rattle.queue.specs.Holding.{Holds}
-use Rattle.sdlc.specs.declared.Listened.{Listened}
 use Rattle.sdlc.specs.Hearing.{pastFlag, hearSdlc}
 use Rattle.whole.specs.Heard.{Fresh, endMarks}
 use Rattle.whole.specs.Frames.{ended, betweenFlags, framesOf, allEnded, Notes}
@@ -24,10 +22,10 @@ use Rattle.channel.specs.declared.Answer.the-variants.{Gave}
 use Rattle.chip.specs.declared.Chip.{Chip}
 use Rattle.chip.specs.Event.{Event, ControlRead}
 use Rattle.stories.specs.Story.{Which, number, chan, happens, after}
-use Rattle.stories.specs.Received.{Hears, Reads, Else, toReceiver, bitsOf, valuesOf, tookOf}
-use Rattle.stories.specs.Received.{bytesOf}
-use Rattle.stories.specs.Received.{goodEnd, noEnd}
+use Rattle.stories.specs.Received.{bitsOf, valuesOf, tookOf, bytesOf, goodEnd, noEnd}
 use Rattle.history.specs.Receiving.Side.{Side, sideOf}
+use Rattle.history.specs.Receiving.Events.{roomIf}
+use Rattle.history.specs.Receiving.Stories.{HearsWhere}
 
 -- "An SDLC receiver that [is] on, address search off, queue empty, in hunt or just past a flag"
 
@@ -44,20 +42,11 @@ pub record Listening (x : Side) : Type 0 where
 -- character over finds room, reads come as they like, and what else happens leaves the side as it
 -- was
 
-abbrev pub roomFor : Queue → Listened → Bool
-roomFor q h = not (h .some) || ltb (q .count) room
-
 abbrev pub roomy : Side → Bool → Bool
-roomy x b = roomFor (x .queue) (hearSdlc (x .settings .addressing) (x .listener) b)
+roomy x b = roomIf (hearSdlc (x .settings .addressing) (x .listener) b .some) (x .queue)
 
-pub data Fed (w : Which) : Chip → List Event → Type 0 where
-  over : {c : Chip} → Fed w c []
-  hears : {c : Chip} {e : Event} {st : List Event} {b : Bool} → toReceiver w e ≡ Hears b
-      → roomy (sideOf w c) b ≡ true → Fed w (happens c e .chip) st → Fed w c (e ∷ st)
-  reads : {c : Chip} {e : Event} {st : List Event} → toReceiver w e ≡ Reads
-      → Fed w (happens c e .chip) st → Fed w c (e ∷ st)
-  still : {c : Chip} {e : Event} {st : List Event} → toReceiver w e ≡ Else
-      → sideOf w (happens c e .chip) ≡ sideOf w c → Fed w (happens c e .chip) st → Fed w c (e ∷ st)
+abbrev pub Fed : Which → Chip → List Event → Type 0
+Fed w c st = HearsWhere (sideOf w) (λ d b. roomy (sideOf w d) b ≡ true) w c st
 
 -- at the end of a story: what was read, followed by what waits, is this; no latch of RR1 has
 -- changed, and the receiver is just past a flag

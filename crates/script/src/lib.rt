@@ -7,8 +7,8 @@ use chip::Outcome;
 use common::Refusal;
 use vector::Acked;
 ghost use mathlib.Core.Path.{_≡_};
-ghost use Rattle.script.specs.Step.{plain, answerOf, acknowledged, unnamed, named, step};
-ghost use Rattle.script.specs.Shown.{pointedAt, registerOf, shown};
+ghost use Rattle.script.specs.Step.{answerOf, acknowledged, unnamed, named, step};
+ghost use Rattle.script.specs.Shown.{registerOf, shown};
 
 // The codes of the events.
 const RESET: u8 = 0;
@@ -28,16 +28,6 @@ const RECEIVE: u8 = 6;
 const SET_LINES: u8 = 7;
 
 const ACKNOWLEDGE: u8 = 8;
-
-// A call that is never refused and gives nothing.
-fn plain(c: Chip) -> Outcome
-    ensures { λ r. ⌜ r ≡ plain c ⌝ }
-{
-    Outcome {
-        answer: Answer::Done,
-        chip: c,
-    }
-}
 
 // An acknowledge's answer among those of the other calls.
 fn answer_of(w: Acked) -> Answer
@@ -65,9 +55,15 @@ fn unnamed(c: Chip, code: u8) -> Outcome
     ensures { λ r. ⌜ r ≡ unnamed c code ⌝ }
 {
     match code {
-        RESET => plain(Chip::reset()),
+        RESET => Outcome {
+            answer: Answer::Done,
+            chip: Chip::reset(),
+        },
         ACKNOWLEDGE => acknowledged(c.acknowledge()),
-        _ => plain(c.reti()),
+        _ => Outcome {
+            answer: Answer::Done,
+            chip: c.reti(),
+        },
     }
 }
 
@@ -96,19 +92,12 @@ pub fn step(c: Chip, code: u8, x: u8, y: u8, z: u8) -> Outcome
     unnamed(c, code)
 }
 
-// The pointer at register n: behind a control read it is 0, whatever it was.
-fn pointed_at(c: Chip, channel: u8, n: u8) -> Outcome
-    ensures { λ r. ⌜ r ≡ pointedAt c channel n ⌝ }
-{
-    let o = c.control_read(channel);
-    o.chip.control_write(channel, n)
-}
-
-// What a host reads in register n of a channel; its reading is not kept.
+// What a host reads in register n of a channel, at which a write behind a control read points; its reading is not kept.
 pub fn register(c: Chip, channel: u8, n: u8) -> u8
     ensures { λ r. ⌜ r ≡ registerOf c channel n ⌝ }
 {
-    let o = pointed_at(c, channel, n);
+    let o = c.control_read(channel);
+    let o = o.chip.control_write(channel, n);
     let o = o.chip.control_read(channel);
     let w = o.answer;
     w.value()

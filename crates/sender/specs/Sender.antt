@@ -20,6 +20,7 @@ use Rattle.bytesync.specs.Sending.{tickBlock, sendsCheck}
 use Rattle.sdlc.specs.declared.LineUnit.{LineUnit}
 use Rattle.sdlc.specs.declared.LineUnit.the-variants.{Mark}
 use Rattle.sdlc.specs.declared.Framer.{Framer}
+use Rattle.sdlc.specs.declared.Framing.{Framing}
 use Rattle.sdlc.specs.declared.Framed.{Framed}
 use Rattle.sdlc.specs.Sending.{notCounted, framer, tickSdlc, abortedBy, checking}
 use Rattle.sender.specs.declared.Sender.{Sender}
@@ -70,6 +71,9 @@ abbrev pub tickInBlocks : Sending → Sender → Ticked
 tickInBlocks g s =
     withBreak (g .broken) (bySyncing s (tickBlock (g .syncing) (s .block) (s .shared)))
 
+abbrev pub tickInSdlc : Framing → Bool → Sender → Ticked
+tickInSdlc f broken s = withBreak broken (byFramer s (tickSdlc f (framerOf s)))
+
 -- 01, Registers: "With no mode, ticks send 1, break or not, and receive nothing."
 abbrev pub tickIn : Mode → Sending → Sender → Ticked
 tickIn NoMode g s = ticked true false s
@@ -77,7 +81,7 @@ tickIn Asynchronous g s =
     withBreak (g .broken) (byTypist s (tickCharacter (g .typing) (s .character) (s .shared)))
 tickIn Monosync g s = tickInBlocks g s
 tickIn Bisync g s = tickInBlocks g s
-tickIn Sdlc g s = withBreak (g .broken) (byFramer s (tickSdlc (g .framing) (framerOf s)))
+tickIn Sdlc g s = tickInSdlc (g .framing) (g .broken) s
 
 unfoldable pub tick : Sending → Sender → Ticked
 tick g s = tickIn (g .mode) g s

@@ -19,15 +19,15 @@ use shared::preset_for;
 ghost use mathlib.Core.Path.{_≡_};
 ghost use mathlib.Core.Bool.{true, false};
 ghost use Rattle.sender.specs.Sender.{ticked, framerOf, framerIn, byFramer, byTypist, bySyncing, withBreak, tick};
-ghost use Rattle.sender.specs.Sender.{withShared, blockIn, tickInBlocks, written, aborted, checkPreset, latchCleared, idled, atReset, allSent, bufferReady};
+ghost use Rattle.sender.specs.Sender.{withShared, blockIn, tickInSdlc, tickInBlocks, written, aborted, checkPreset, latchCleared, idled, atReset, allSent, bufferReady};
 
 // SDLC's unit and zero insertion, the asynchronous character, the unit of Monosync and Bisync, and what all modes share.
 pub struct Sender {
+    pub shared: Shared,
+    pub character: Character,
     pub unit: LineUnit,
     pub insertion: Insertion,
-    pub character: Character,
     pub block: BlockUnit,
-    pub shared: Shared,
 }
 
 // What registers and CTS say of sending. broken: WR5 D4.
@@ -169,6 +169,14 @@ impl Sender {
         self.by_syncing(y.tick(u, k)).with_break(g.broken)
     }
 
+    // One transmit tick of SDLC.
+    pub fn tick_framed(self, f: Framing, broken: bool) -> Ticked
+        ensures { λ r. ⌜ r ≡ tickInSdlc f broken self ⌝ }
+    {
+        self.by_framer(framing::tick(self.framer(), f))
+            .with_break(broken)
+    }
+
     // A tick with no mode.
     fn unticked(self) -> Ticked
         ensures { λ r. ⌜ r ≡ ticked true false self ⌝ }
@@ -195,8 +203,7 @@ impl Sender {
                 .with_break(g.broken),
             Mode::Monosync => self.unticked(),
             Mode::Bisync => self.unticked(),
-            Mode::Sdlc => self.by_framer(framing::tick(self.framer(), g.framing))
-                .with_break(g.broken),
+            Mode::Sdlc => self.tick_framed(g.framing, g.broken),
         }
     }
 

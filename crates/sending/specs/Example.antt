@@ -24,7 +24,8 @@ use Rattle.stories.specs.Sending.{held, begun, told}
 use Rattle.history.specs.Sound.{reset-sound}
 use Rattle.history.specs.Sending.Side.{sendingIn, fullOf, latchOf}
 use Rattle.timely.specs.Start.{Start, start-of}
-use Rattle.sending.specs.Statement.{Closing, anew, RunsDry, Underrun, statusLatched}
+use Rattle.history.specs.Sending.Stories.{anew}
+use Rattle.sending.specs.Statement.{Closing, RunsDry, Underrun, statusLatched}
 use Rattle.sending.specs.Statement.{NotClosed}
 use Rattle.sending.specs.Frame.{frame-begun}
 use Rattle.sending.specs.Chain.{starts-anew, frame-ends}

@@ -1,7 +1,7 @@
 -- Demand 3's frame: what was sent, followed by what is to come, is the frame at every moment. One
 -- induction over the story. Assumes nothing.
 use mathlib.Core.Path.{_≡_, refl, sym, ap, ap₂, _∙_}
-use mathlib.Core.Bool.{Bool, false}
+use mathlib.Core.Bool.{Bool, true, false}
 use mathlib.Core.List.{List, [], _∷_, _++_, append-assoc, append-nil}
 use Prim.Native.Nat.{ℕ, _+_, _-_, _≤_}
 use native.Mathlib.Omega.{arith}
@@ -18,7 +18,7 @@ use Rattle.chip.specs.Event.{Event, DataWrite, Transmit}
 use Rattle.whole.specs.Come.{toCome, filledWith}
 use Rattle.whole.specs.Stage.{sinceAfter, inTime, Stage}
 use Rattle.whole.specs.Start.{started, flagHead}
-use Rattle.whole.specs.Laws.Come.{takes, moves, later}
+use Rattle.whole.specs.Laws.Come.{Takes, takes, moves, later}
 use Rattle.whole.specs.Laws.Start.{head-length, at-start, start-stage}
 use Rattle.stories.specs.Story.{Which, number, chan, happens, after}
 use Rattle.stories.specs.Sent.{ticksBy, isTick, lineOf, ticks}
@@ -76,6 +76,32 @@ ticks-on w c st s t bit rest left h z e k = record {
       ∙ ap (λ (b : List Bool). bit ∷ b) (k .whole) ∙ sym e;
 }
 
+-- a tick in time, on the chip: the sender behind it, and its stage
+pub record TickTaken (a : Bool) (w : Which) (c : Chip) (s : Framer) (n : ℕ)
+    (rest : List ℕ) : Type 0 where
+  pub timely : inTime (s .shared .full) n rest ≡ true
+  pub took : Takes a s n rest
+  pub there : sideOf w (happens c (Transmit (number w)) .chip) ≡ side (took .next) good
+  pub stage : let d = happens c (Transmit (number w)) .chip in
+      Stage a (took .next) (sinceAfter (fullOf w c) (fullOf w d) n) rest
+
+pub tick-taken : {a : Bool} (w : Which) (c : Chip) (s : Framer) (n : ℕ) (rest : List ℕ)
+    → sideOf w c ≡ side s good → Stage a s n rest → inTime (fullOf w c) n rest ≡ true
+    → 1 ≤ length (toCome s rest) → TickTaken a w c s n rest
+tick-taken w c s n rest e g f l =
+    let timely = ap (λ (x : SenderSide). inTime (x .sender .shared .full) n rest) (sym e) ∙ f in
+    let t = takes g timely l in
+    let d = happens c (Transmit (number w)) .chip in
+    let y : sideOf w d ≡ side (t .next) good =
+    tick-side w c (ap (λ (x : SenderSide). x .heeds) e)
+    ∙ ap (λ (x : Framed). side (x .framer) good)
+    (ap (λ (x : SenderSide). tickSdlc come.good (x .sender)) e ∙ t .ticks) in
+    let q : sinceAfter (s .shared .full) (t .next .shared .full) n
+    ≡ sinceAfter (fullOf w c) (fullOf w d) n =
+    ap₂ (λ (x y : SenderSide). sinceAfter (x .sender .shared .full) (y .sender .shared .full) n)
+    (sym e) (sym y) in
+    record { timely = timely; took = t; there = y; stage = rw q at (t .stage) }
+
 pub conserved : {a : Bool}
     (w : Which) {left : List ℕ} {c : Chip} {n : ℕ} {rest : List ℕ} {st : List Event}
     → InTime w left c n rest st
@@ -106,21 +132,13 @@ conserved w {left} (next-frame {c = c} {v = v} {st = st} f i) s e g l =
     (omega (arith, ap length (m .0), skip-ticks w (DataWrite (number w) v) st z)))
 conserved w {left} (ticking {c = c} {n = n} {rest = rest} {st = st} f i) s e g l =
     let o = rw (tick-counts w) at l in
-    let h = ap (λ (x : SenderSide). x .heeds) e in
-    let timely = ap (λ (x : SenderSide). inTime (x .sender .shared .full) n rest) (sym e) ∙ f in
-    let t = takes g timely (omega arith) in
-    let d = happens c (Transmit (number w)) .chip in
-    let same : tickedOf w c ≡ tickSdlc come.good s =
-    ap (λ (x : SenderSide). tickSdlc come.good (x .sender)) e in
-    let y : sideOf w d ≡ side (t .next) good =
-    tick-side w c h ∙ ap (λ (x : Framed). side (x .framer) good) (same ∙ t .ticks) in
-    let q : sinceAfter (s .shared .full) (t .next .shared .full) n
-    ≡ sinceAfter (fullOf w c) (fullOf w d) n =
-    ap₂ (λ (x y : SenderSide). sinceAfter (x .sender .shared .full) (y .sender .shared .full) n)
-    (sym e) (sym y) in
-    ticks-on w c st s (t .next) (t .sent) rest left h
-    (ap (λ (x : Framed). x .bit) (same ∙ t .ticks)) (t .head)
-    (conserved w i (t .next) y (rw q at (t .stage)) (omega (arith, ap length (t .head))))
+    let k = tick-taken w c s n rest e g f (omega arith) in
+    let t = k .took in
+    ticks-on w c st s (t .next) (t .sent) rest left (ap (λ (x : SenderSide). x .heeds) e)
+    (ap (λ (x : SenderSide). tickSdlc come.good (x .sender) .bit) e
+    ∙ ap (λ (x : Framed). x .bit) (t .ticks))
+    (t .head)
+    (conserved w i (t .next) (k .there) (k .stage) (omega (arith, ap length (t .head))))
 
 -- Demand 3
 

@@ -10,12 +10,13 @@ use Rattle.sdlc.specs.declared.LineUnit.the-variants.{Flag, Byte}
 use Rattle.sdlc.specs.Sound.{SoundUnit}
 use Rattle.sender.specs.Good.{Good}
 use Rattle.chip.specs.declared.Chip.{Chip}
-use Rattle.chip.specs.Event.{Event, ControlWrite, DataWrite, Transmit}
+use Rattle.chip.specs.Event.{Event, ControlWrite, Transmit}
 use Rattle.whole.specs.Come.{opens}
 use Rattle.whole.specs.Start.{flagHead}
 use Rattle.stories.specs.Story.{Which, number, chan, happens, after}
-use Rattle.stories.specs.Sent.{Else, toSender, lineOf, ticks, d6, resetStatus}
-use Rattle.history.specs.Sending.Side.{sendingIn, sideOf, fullOf, latchOf}
+use Rattle.stories.specs.Sent.{lineOf, ticks, d6, resetStatus}
+use Rattle.history.specs.Sending.Side.{sendingIn, fullOf, latchOf}
+use Rattle.history.specs.Sending.Stories.{TicksWhere, anew}
 use Rattle.timely.specs.Start.{Start}
 use Rattle.timely.specs.InTime.{InTime}
 use Rattle.timely.specs.Free.{Free}
@@ -52,10 +53,6 @@ pub record Closing (w : Which) (c : Chip) (p : ℕ) : Type 0 where
   pub settings : Good (sendingIn (chan w c))
   pub history : SoundUnit (chan w c .sender .unit) (chan w c .sender .insertion)
   pub to-wr0 : chan w c .pointer ≡ 0
-
--- WR0, "D7-6: .. 2 preset Tx check, 3 clear Underrun latch"
-abbrev pub anew : Which → List Event
-anew w = ControlWrite (number w) 0b10000000 ∷ ControlWrite (number w) 0b11000000 ∷ []
 
 abbrev pub StartsAnew : Type 0
 StartsAnew = (w : Which) (c : Chip) (p : ℕ) → Closing w c p → Start w (after c (anew w)) p
@@ -120,17 +117,11 @@ ResetShows =
 -- The same for every story of a host that ticks and writes as it likes and whose status is not
 -- latched at a tick while the latch is clear: as long as it reads D6 as 0, no bit of a check and
 -- none of a closing flag has gone out
-pub data Watched (w : Which) : Chip → List Event → Type 0 where
-  ended : {c : Chip} → Watched w c []
-  still : {c : Chip} {e : Event} {st : List Event} → toSender w e ≡ Else
-      → sideOf w (happens c e .chip) ≡ sideOf w c → Watched w (happens c e .chip) st
-      → Watched w c (e ∷ st)
-  writes : {c : Chip} {v : ℕ} {st : List Event}
-      → Watched w (happens c (DataWrite (number w) v) .chip) st
-      → Watched w c (DataWrite (number w) v ∷ st)
-  ticking : {c : Chip} {st : List Event} → (latchOf w c ≡ false → statusLatched w c ≡ false)
-      → Watched w (happens c (Transmit (number w)) .chip) st
-      → Watched w c (Transmit (number w) ∷ st)
+abbrev pub Seeing : Which → Chip → Type 0
+Seeing w c = latchOf w c ≡ false → statusLatched w c ≡ false
+
+abbrev pub Watched : Which → Chip → List Event → Type 0
+Watched w c st = TicksWhere (Seeing w) w c st
 
 abbrev pub NotClosed : Which → Chip → Type 0
 NotClosed w c = (latchOf w c ≡ false) × (opens (chan w c .sender .unit) ≡ true)

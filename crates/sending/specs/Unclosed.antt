@@ -31,20 +31,20 @@ use Rattle.shown.specs.Shown.{shows-read}
 use Rattle.sending.specs.Underrun.{heedsOf, tick-heeds, write-heeds, tick-latch, write-latch}
 use Rattle.sending.specs.Underrun.{Seen, watched-seen, shown}
 use Rattle.whole.specs.Come as come
-use Rattle.sending.specs.Statement as stated
+use Rattle.history.specs.Sending.Stories as hosts
 use Rattle.sending.specs.Underrun as underruns
 
 -- the latch, once set, is set at the end
 stays-set : (w : Which) {c : Chip} {st : List Event} → Watched w c st → heedsOf w c ≡ good
     → latchOf w c ≡ true → latchOf w (after c st) ≡ true
 unfolding after
-stays-set w stated.ended e l = l
-stays-set w (stated.still r k f) e l =
+stays-set w hosts.ended e l = l
+stays-set w (hosts.still r k f) e l =
     stays-set w f (ap (λ (x : SenderSide). x .heeds) k ∙ e)
     (ap (λ (x : SenderSide). x .sender .shared .latch) k ∙ l)
-stays-set w (stated.writes {c = c} {v = v} f) e l = stays-set w f (write-heeds w c v e)
+stays-set w (hosts.writes {c = c} {v = v} f) e l = stays-set w f (write-heeds w c v e)
     (write-latch w c v ∙ l)
-stays-set w (stated.ticking {c = c} u f) e l = stays-set w f (tick-heeds w c e) (tick-latch w c e l)
+stays-set w (hosts.ticking {c = c} u f) e l = stays-set w f (tick-heeds w c e) (tick-latch w c e l)
 
 -- a tick, from what is so behind it
 tick-unclosed : (w : Which) (c : Chip) (st : List Event) (s : Framer) (o g : ℕ)
@@ -73,15 +73,15 @@ story-unclosed : (w : Which) {c : Chip} {st : List Event} → Watched w c st →
     → sideOf w c ≡ side s good → Opened s o g
     → latchOf w (after c st) ≡ false → unclosed o g (lineOf w c st) ≡ true
 unfolding after lineOf
-story-unclosed w stated.ended s o g e k z = unfold unclosed in refl
-story-unclosed w (stated.still {c = c} {e = x} {st = st} r q f) s o g e k z =
+story-unclosed w hosts.ended s o g e k z = unfold unclosed in refl
+story-unclosed w (hosts.still {c = c} {e = x} {st = st} r q f) s o g e k z =
     ap (unclosed o g) (skip-line w c x st (ap ticksBy r)) ∙ story-unclosed w f s o g (q ∙ e) k z
-story-unclosed w (stated.writes {c = c} {v = v} {st = st} f) s o g e k z =
+story-unclosed w (hosts.writes {c = c} {v = v} {st = st} f) s o g e k z =
     ap (unclosed o g) (skip-line w c (DataWrite (number w) v) st (write-no-tick w v))
     ∙ story-unclosed w f (filledWith s v) o g
     (write-side w c v ∙ ap (λ (x : SenderSide). side (filledWith (x .sender) v) (x .heeds)) e)
     (opened-filled v k) z
-story-unclosed w (stated.ticking {c = c} {st = st} u f) s o g e k z =
+story-unclosed w (hosts.ticking {c = c} {st = st} u f) s o g e k z =
     let h : heedsOf w c ≡ good = ap (λ (x : SenderSide). x .heeds) e in
     tick-unclosed w c st s o g e (tick-goes k) (λ t p q a m. story-unclosed w f t p q a m z)
     (λ l. void (sym z ∙ stays-set w f (tick-heeds w c h) l))

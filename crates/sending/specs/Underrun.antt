@@ -33,8 +33,7 @@ use Rattle.sending.specs.Frame.{demand3}
 use Rattle.shown.specs.Shown.{d6-read, Shows, shows-read, unlatched-shows, tick-shown}
 use Rattle.shown.specs.Shown.{event-shown, reset-seen}
 use Rattle.whole.specs.Come as come
-use Rattle.timely.specs.Free as hosts
-use Rattle.sending.specs.Statement as stated
+use Rattle.history.specs.Sending.Stories as hosts
 
 -- The tick that finds the line dry
 
@@ -120,7 +119,7 @@ free-in-time w (hosts.still {c = c} {e = x} r k f) e l n =
     (ap (λ (x : SenderSide). x .sender .shared .latch) k ∙ l) n)
 free-in-time w (hosts.writes {c = c} {v = v} f) e l n = next-frame l
     (free-in-time w f (write-heeds w c v e) (write-latch w c v ∙ l) n)
-free-in-time w (hosts.ticking {c = c} f) e l n = ticking refl
+free-in-time w (hosts.ticking {c = c} m f) e l n = ticking refl
     (free-in-time w f (tick-heeds w c e) (tick-latch w c e l) _)
 
 in-time-join : (w : Which) {c : Chip} {n : ℕ} {rest : List ℕ} {xs : List Event} (ys : List Event)
@@ -165,7 +164,7 @@ free-seen w (hosts.writes {c = c} {v = v} f) e l h =
     let m =
     write-latch w c v
     ∙ l in free-seen w f (write-heeds w c v e) m (event-shown w c (DataWrite (number w) v) l h m)
-free-seen w (hosts.ticking {c = c} f) e l h =
+free-seen w (hosts.ticking {c = c} m f) e l h =
     let m = tick-latch w c e l in free-seen w f (tick-heeds w c e) m (tick-shown w c h m)
 
 pub underrun-seen : UnderrunSeen
@@ -194,30 +193,30 @@ pub data Seen (w : Which) (c : Chip) : Type 0 where
 pub watched-seen : (w : Which) {c : Chip} {st : List Event} → Watched w c st → heedsOf w c ≡ good
     → Seen w c → Seen w (after c st)
 unfolding after
-watched-seen w stated.ended e s = s
-watched-seen w (stated.still {c = c} {e = x} r k f) e (unclosed n) =
+watched-seen w hosts.ended e s = s
+watched-seen w (hosts.still {c = c} {e = x} r k f) e (unclosed n) =
     watched-seen w f (ap (λ (x : SenderSide). x .heeds) k ∙ e)
     (unclosed (
       ap (λ (x : SenderSide). x .sender .shared .latch) k
           ∙ n .0,
       ap (λ (x : SenderSide). opens (x .sender .unit)) k ∙ n .1,
     ))
-watched-seen w (stated.still {c = c} {e = x} r k f) e (shown l h) =
+watched-seen w (hosts.still {c = c} {e = x} r k f) e (shown l h) =
     let m = ap (λ (x : SenderSide). x .sender .shared .latch) k ∙ l in
     watched-seen w f (ap (λ (x : SenderSide). x .heeds) k ∙ e) (shown m (event-shown w c x l h m))
-watched-seen w (stated.writes {c = c} {v = v} f) e (unclosed n) =
+watched-seen w (hosts.writes {c = c} {v = v} f) e (unclosed n) =
     watched-seen w f (write-heeds w c v e)
     (unclosed (
       write-latch w c v
           ∙ n .0,
       ap (λ (x : SenderSide). opens (x .sender .unit)) (write-side w c v) ∙ n .1,
     ))
-watched-seen w (stated.writes {c = c} {v = v} f) e (shown l h) =
+watched-seen w (hosts.writes {c = c} {v = v} f) e (shown l h) =
     let m =
     write-latch w c v
     ∙ l in watched-seen w f (write-heeds w c v e)
     (shown m (event-shown w c (DataWrite (number w) v) l h m))
-watched-seen w (stated.ticking {c = c} u f) e (unclosed n) =
+watched-seen w (hosts.ticking {c = c} u f) e (unclosed n) =
     watched-seen w f (tick-heeds w c e) (go (tick-went (sideOf w c .sender) (n .0) (n .1)))
   where
     go : Went (tickedOf w c .framer) → Seen w (happens c (Transmit (number w)) .chip)
@@ -230,7 +229,7 @@ watched-seen w (stated.ticking {c = c} u f) e (unclosed n) =
     go (latched l) =
         let m = ap (λ (x : SenderSide). x .sender .shared .latch) (tick-side w c e) ∙ l in
         shown m (tick-shown w c (unlatched-shows (chan w c .status) (u (n .0))) m)
-watched-seen w (stated.ticking {c = c} u f) e (shown l h) =
+watched-seen w (hosts.ticking {c = c} u f) e (shown l h) =
     let m = tick-latch w c e l in watched-seen w f (tick-heeds w c e) (shown m (tick-shown w c h m))
 
 pub never-unseen : NeverUnseen

@@ -11,8 +11,8 @@ ghost use lib.ListN.{length};
 // Room for the rows of every list: a note takes three bytes of it or more.
 const ROWS: usize = 4 * 21845;
 
-// A line has at most this many bytes: four numbers of twenty digits, three spaces and a newline.
-const LINE: usize = 84;
+// A number has at most twenty digits, and a byte stands behind it.
+const NUMBER: usize = 21;
 
 fn room() -> [usize; ROWS]
     ensures { λ r. ⌜ 87380 ≡ length r ⌝ }
@@ -48,30 +48,12 @@ fn put_number(out: &mut [u8], at: usize, v: usize, end: u8) -> usize {
     put_byte(out, p, end)
 }
 
-// Four numbers, as a line.
-fn put_line(
-    out: &mut [u8],
-    at: usize,
-    number: usize,
-    bytes: usize,
-    zeros: usize,
-    ticks: usize,
-) -> usize {
-    let p = put_number(out, at, number, b' ');
-    let p = put_number(out, p, bytes, b' ');
-    let p = put_number(out, p, zeros, b' ');
-    put_number(out, p, ticks, b'\n')
-}
-
-// The row at a place.
-fn put_row(out: &mut [u8], at: usize, rows: &[usize], j: usize) -> usize {
-    if rows.len() < ROW {
-        return at;
+// What stands behind a cell of the rows: the last of each row ends a line.
+fn behind(j: usize) -> u8 {
+    if j % ROW == ROW - 1 {
+        return b'\n';
     }
-    if rows.len() - ROW < j {
-        return at;
-    }
-    put_line(out, at, rows[j], rows[j + 1], rows[j + 2], rows[j + 3])
+    b' '
 }
 
 fn wide(x: u8) -> usize {
@@ -85,10 +67,10 @@ fn flush(out: &[u8], at: usize) {
     }
 }
 
-// What waits is written where another line has no room; gives the next place.
+// What waits is written where another number has no room; gives the next place.
 fn flush_full(out: &[u8], at: usize) -> usize {
     if at <= out.len() {
-        if out.len() - at < LINE {
+        if out.len() - at < NUMBER {
             io::write_all(1, &out[0..at]);
             return 0;
         }
@@ -100,35 +82,42 @@ fn flush_full(out: &[u8], at: usize) -> usize {
 fn put_rows(out: &mut [u8], rows: &[usize], notes: usize) -> usize {
     let mut at = 0;
     let mut j = 0;
-    let mut left = notes;
-    while 0 < left {
-        if rows.len() < j {
+    while j < rows.len() {
+        if notes <= j / ROW {
             return at;
         }
-        at = put_row(out, at, rows, j);
+        at = put_number(out, at, rows[j], behind(j));
         at = flush_full(out, at);
-        j = j + ROW;
-        left = left - 1;
+        j = j + 1;
     }
     at
 }
 
+fn tell_rows(rows: &[usize], notes: usize) {
+    let mut out = io::buffer();
+    let p = put_rows(&mut out, rows, notes);
+    flush(&out, p);
+}
+
+// A word and a number.
+fn say(word: &[u8], n: usize) {
+    io::write_all(1, word);
+    io::print_decimal(1, n as u64);
+}
+
 // The whole report.
-fn tell(out: &mut [u8], rows: &[usize], told: Listed) {
+fn tell(rows: &[usize], told: Listed) {
     match told {
         Listed::Refused(k) => {
-            let p = put(out, 0, b"refused ");
-            let p = put_number(out, p, wide(k.number()), b'\n');
-            flush(out, p);
+            say(b"refused ", wide(k.number()));
         }
         Listed::All { notes, ticks } => {
-            let p = put_rows(out, rows, notes);
-            let p = put(out, p, b"end ");
-            let p = put_number(out, p, notes, b' ');
-            let p = put_number(out, p, ticks, b'\n');
-            flush(out, p);
+            tell_rows(rows, notes);
+            say(b"end ", notes);
+            say(b" ", ticks);
         }
     }
+    io::write_all(1, b"\n");
 }
 
 // A list through a reset chip.
@@ -140,8 +129,7 @@ fn sent(list: &[u8], rows: &mut [usize], between: Between) -> Listed {
 // A list is sent, and what went is told.
 fn send_and_tell(list: &[u8], rows: &mut [usize], between: Between) {
     let told = sent(list, rows, between);
-    let mut out = io::buffer();
-    tell(&mut out, rows, told);
+    tell(rows, told);
 }
 
 // The list that is read, its notes one behind the other by this choice.

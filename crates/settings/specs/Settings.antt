@@ -4,51 +4,67 @@ use Prim.Native.Nat.{ℕ, _/_, _%_}
 use lib.Dec.{eqb}
 use Rattle.common.specs.Choice.{if_then_else_}
 use Rattle.common.specs.declared.Mode.{Mode}
-use Rattle.common.specs.declared.Mode.the-variants.{NoMode, Asynchronous, Monosync, Bisync, Sdlc}
+use Rattle.common.specs.declared.Mode.the-variants.{Asynchronous, Monosync, Bisync, Sdlc}
 use Rattle.line.specs.Bits.{odd}
 use Rattle.asynchronous.specs.declared.Format.{Format}
 use Rattle.bytesync.specs.declared.Syncs.{Syncs}
 use Rattle.bytesync.specs.Syncs.{syncs, polynomialOf}
 use Rattle.bytesync.specs.Sending.{syncing}
 use Rattle.bytesync.specs.Hearing.{matching}
+use Rattle.sdlc.specs.declared.Framing.{Framing}
 use Rattle.sender.specs.declared.Sending.{Sending}
 use Rattle.receiver.specs.declared.Receiving.{Receiving}
 use Rattle.settings.specs.declared.Registers.{Registers}
 use Rattle.settings.specs.declared.Lines.{Lines}
 
--- the registers as written, and one of them written anew; chosen: since the last reset a WR4 has
--- chosen a mode
-abbrev pub registers : ℕ → ℕ → ℕ → ℕ → ℕ → ℕ → ℕ → Bool → Registers
+-- "WR4: D0 parity, D1 even, D3-2 stop bits 01 one, 11 two, 00 synchronous; D5-4 10 SDLC." 02, P3,
+-- and the chip maker's manual: D5-4 00 Monosync, 01 Bisync
+abbrev pub stopField : ℕ → ℕ
+stopField wr4 = wr4 / 4 % 4
+
+abbrev pub synchronousField : ℕ → ℕ
+synchronousField wr4 = wr4 / 16 % 4
+
+unfoldable pub modeOf : ℕ → Mode
+modeOf wr4 =
+    if eqb (stopField wr4) 0
+    then (if eqb (synchronousField wr4) 2 then Sdlc
+    else (if eqb (synchronousField wr4) 1 then Bisync else Monosync))
+    else Asynchronous
+
+-- the registers as written, and one of them written anew; the mode is what the last WR4 chose: a
+-- reset "zeroes the WRs" and "leaves no mode", and a WR4 of zero, once it is written, is Monosync
+abbrev pub registers : ℕ → ℕ → ℕ → ℕ → ℕ → ℕ → ℕ → Mode → Registers
 registers a b c d e f g m =
-    record { wr1 = a; wr2 = b; wr3 = c; wr4 = d; wr5 = e; wr6 = f; wr7 = g; chosen = m }
+    record { wr1 = a; wr2 = b; wr3 = c; wr4 = d; wr5 = e; wr6 = f; wr7 = g; mode = m }
 
 abbrev pub store1 : Registers → ℕ → Registers
 store1 r v =
-    registers v (r .wr2) (r .wr3) (r .wr4) (r .wr5) (r .wr6) (r .wr7) (r .chosen)
+    registers v (r .wr2) (r .wr3) (r .wr4) (r .wr5) (r .wr6) (r .wr7) (r .mode)
 
 abbrev pub store2 : Registers → ℕ → Registers
 store2 r v =
-    registers (r .wr1) v (r .wr3) (r .wr4) (r .wr5) (r .wr6) (r .wr7) (r .chosen)
+    registers (r .wr1) v (r .wr3) (r .wr4) (r .wr5) (r .wr6) (r .wr7) (r .mode)
 
 abbrev pub store3 : Registers → ℕ → Registers
 store3 r v =
-    registers (r .wr1) (r .wr2) v (r .wr4) (r .wr5) (r .wr6) (r .wr7) (r .chosen)
+    registers (r .wr1) (r .wr2) v (r .wr4) (r .wr5) (r .wr6) (r .wr7) (r .mode)
 
 abbrev pub store4 : Registers → ℕ → Registers
 store4 r v =
-    registers (r .wr1) (r .wr2) (r .wr3) v (r .wr5) (r .wr6) (r .wr7) true
+    registers (r .wr1) (r .wr2) (r .wr3) v (r .wr5) (r .wr6) (r .wr7) (modeOf v)
 
 abbrev pub store5 : Registers → ℕ → Registers
 store5 r v =
-    registers (r .wr1) (r .wr2) (r .wr3) (r .wr4) v (r .wr6) (r .wr7) (r .chosen)
+    registers (r .wr1) (r .wr2) (r .wr3) (r .wr4) v (r .wr6) (r .wr7) (r .mode)
 
 abbrev pub store6 : Registers → ℕ → Registers
 store6 r v =
-    registers (r .wr1) (r .wr2) (r .wr3) (r .wr4) (r .wr5) v (r .wr7) (r .chosen)
+    registers (r .wr1) (r .wr2) (r .wr3) (r .wr4) (r .wr5) v (r .wr7) (r .mode)
 
 abbrev pub store7 : Registers → ℕ → Registers
 store7 r v =
-    registers (r .wr1) (r .wr2) (r .wr3) (r .wr4) (r .wr5) (r .wr6) v (r .chosen)
+    registers (r .wr1) (r .wr2) (r .wr3) (r .wr4) (r .wr5) (r .wr6) v (r .mode)
 
 -- "WR0: D2-0 pointer; D5-3 command ..; D7-6"
 abbrev pub pointerIn : ℕ → ℕ
@@ -81,24 +97,8 @@ entersHunt wr3 = odd (wr3 / 16)
 abbrev pub autoEnables : Registers → Bool
 autoEnables r = odd (r .wr3 / 32)
 
--- "WR4: D0 parity, D1 even, D3-2 stop bits 01 one, 11 two, 00 synchronous; D5-4 10 SDLC." 02, P3,
--- and the chip maker's manual: D5-4 00 Monosync, 01 Bisync
-abbrev pub stopField : ℕ → ℕ
-stopField wr4 = wr4 / 4 % 4
-
-abbrev pub synchronousField : ℕ → ℕ
-synchronousField wr4 = wr4 / 16 % 4
-
-unfoldable pub modeOf : ℕ → Mode
-modeOf wr4 =
-    if eqb (stopField wr4) 0
-    then (if eqb (synchronousField wr4) 2 then Sdlc
-    else (if eqb (synchronousField wr4) 1 then Bisync else Monosync))
-    else Asynchronous
-
--- a reset "zeroes the WRs" and "leaves no mode"; a WR4 of zero, once it is written, is Monosync
 abbrev pub modeIn : Registers → Mode
-modeIn r = if r .chosen then modeOf (r .wr4) else NoMode
+modeIn r = r .mode
 
 -- refusal 3: "a WR4 write with D7-6 not 00, or D3-2 = 10, or D3-2 = 00 and D5-4" external sync; 02,
 -- P3: "3 no longer for these two at clock factor 1; external sync, and a higher factor in either,
@@ -138,11 +138,14 @@ abbrev pub breaks : ℕ → Bool
 breaks wr5 = odd (wr5 / 16)
 
 -- "WR5: D0 Tx check included, D3 on, D4 break, D6-5 length."
+abbrev pub framingOf : Registers → Lines → Framing
+framingOf r l = record { on = sends r l; included = odd (r .wr5) }
+
 unfoldable pub sendingOf : Registers → Lines → Sending
 sendingOf r l = record {
   mode = modeIn r;
   broken = breaks (r .wr5);
-  framing = record { on = sends r l; included = odd (r .wr5) };
+  framing = framingOf r l;
   typing = record {
     on = sends r l;
     format = formatOf r (r .wr5 / 32 % 4);

@@ -12,10 +12,10 @@ use sdlc::Framing;
 use sender::Sending;
 ghost use mathlib.Core.Path.{_≡_};
 ghost use Rattle.settings.specs.Settings.{pointerIn, commandIn, presetIn, externalOn, transmitOn, statusAffects, receiveMode, entersHunt, breaks};
-ghost use Rattle.settings.specs.Settings.{modeOf, modeIn, syncsIn, polynomialIn, notBuilt};
-ghost use Rattle.settings.specs.Settings.{lengthOf, stopsOf, autoEnables, formatOf, sends, sendingOf, receivingOf};
+ghost use Rattle.settings.specs.Settings.{modeOf, modeIn, store4, syncsIn, polynomialIn, notBuilt};
+ghost use Rattle.settings.specs.Settings.{lengthOf, stopsOf, autoEnables, formatOf, sends, framingOf, sendingOf, receivingOf};
 
-// WR1 to WR7 as they were written; WR2 in channel B alone. chosen: since the last reset a WR4 has chosen a mode.
+// WR1 to WR7 as they were written; WR2 in channel B alone. The mode is what the last WR4 chose, none since a reset.
 pub struct Registers {
     pub wr1: u8,
     pub wr2: u8,
@@ -24,7 +24,7 @@ pub struct Registers {
     pub wr5: u8,
     pub wr6: u8,
     pub wr7: u8,
-    pub chosen: bool,
+    pub mode: Mode,
 }
 
 // The two inputs of a channel beside its line; true is on.
@@ -140,14 +140,28 @@ fn stops_of(wr4: u8) -> u8
 }
 
 impl Registers {
-    // The mode; none until a WR4 has chosen one.
+    // The mode; copied by itself, so that a tick need not lay the registers out for it (bench/README.md).
     pub fn mode(self) -> Mode
         ensures { λ r. ⌜ r ≡ modeIn self ⌝ }
     {
-        if self.chosen {
-            return mode_of(self.wr4);
+        let mode = self.mode;
+        mode
+    }
+
+    // A WR4 that is accepted, and the mode that it chooses.
+    pub fn with_wr4(self, wr4: u8) -> Registers
+        ensures { λ r. ⌜ r ≡ store4 self wr4 ⌝ }
+    {
+        Registers {
+            wr1: self.wr1,
+            wr2: self.wr2,
+            wr3: self.wr3,
+            wr4,
+            wr5: self.wr5,
+            wr6: self.wr6,
+            wr7: self.wr7,
+            mode: mode_of(wr4),
         }
-        Mode::NoMode
     }
 
     // The sync characters.
@@ -193,6 +207,16 @@ impl Registers {
         (self.wr5 / 8 % 2 == 1) & (!self.auto_enables() | l.cts)
     }
 
+    // What SDLC's sender is told.
+    pub fn framing(self, l: Lines) -> Framing
+        ensures { λ r. ⌜ r ≡ framingOf self l ⌝ }
+    {
+        Framing {
+            on: self.sends(l),
+            included: self.wr5 % 2 == 1,
+        }
+    }
+
     // The sender's settings.
     pub fn sending(self, l: Lines) -> Sending
         ensures { λ r. ⌜ r ≡ sendingOf self l ⌝ }
@@ -201,10 +225,7 @@ impl Registers {
         Sending {
             mode: self.mode(),
             broken: self.wr5 / 16 % 2 == 1,
-            framing: Framing {
-                on,
-                included: self.wr5 % 2 == 1,
-            },
+            framing: self.framing(l),
             typing: Typing {
                 on,
                 format: self.format(self.wr5 / 32 % 4),

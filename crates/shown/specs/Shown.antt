@@ -2,7 +2,7 @@
 -- the moment it is set until it is cleared. Assumes nothing.
 use mathlib.Core.Path.{_≡_, refl, sym, ap, _∙_}
 use mathlib.Core.Bool.{Bool, true, false, not, _&&_, _||_}
-use Prim.Native.Nat.{ℕ, _+_, _/_, _%_, _≤_}
+use Prim.Native.Nat.{ℕ, _+_, _/_}
 use native.Mathlib.Omega.{arith}
 use lib.Dec.{eqb, leb}
 use Rattle.common.specs.Choice.{if_then_else_}
@@ -26,12 +26,11 @@ use Rattle.channel.specs.declared.Answered.{Answered}
 use Rattle.status.specs.Status.{changed, noticed, shownBits, afresh}
 use Rattle.channel.specs.Channel.{withStatus, liveOf, settled}
 use Rattle.channel.specs.Control.{commanded, preset, commandStep, presetStep, writeWr0, setWr2}
-use Rattle.channel.specs.Control.{setWr4, setRegister, controlWritten, rr0, readRegister}
+use Rattle.channel.specs.Control.{setWr4, setRegister, controlWritten, rr0}
 use Rattle.channel.specs.Events.{dataRead, transmitTick, receiveTick, linesSet}
 use Rattle.chip.specs.declared.Chip.{Chip}
 use Rattle.chip.specs.declared.Outcome.{Outcome}
-use Rattle.chip.specs.Interrupts.{pendingOf, serviceOf, inService, acknowledge, reti, anyPending}
-use Rattle.chip.specs.Interrupts.{rr2}
+use Rattle.chip.specs.Interrupts.{pendingOf, serviceOf, inService, acknowledge, reti}
 use Rattle.chip.specs.Chip.{serviceBy, controlWriteA, controlWrite, controlReadCall, dataWriteCall}
 use Rattle.chip.specs.Chip.{dataReadCall, transmitCall, receiveCall, linesCall}
 use Rattle.chip.specs.Event.{Event, HardReset, ControlWrite, ControlRead, DataWrite, DataRead}
@@ -40,26 +39,17 @@ use Rattle.stories.specs.Story.{Which, A, B, number, chan, happens}
 use Rattle.stories.specs.Sent.{d6, resetStatus}
 use Rattle.history.specs.Sending.Side.{sendingIn, latchOf}
 use Rattle.history.specs.Quiet.{by-channel}
+use Rattle.history.specs.Read.{pendingIn, reads-rr0, placed-le, d6-of}
 use Rattle.channel.specs.declared.Side.the-variants as channels
 
 -- D6 as it is read
-
-placed-le : (b : Bool) (w : ℕ) → placed b w ≤ w
-placed-le true w = omega arith
-placed-le false w = omega arith
-
-high-two : (low : ℕ) (u a : Bool) → low ≤ 63 → odd ((low + placed u 64 + placed a 128) / 64) ≡ u
-high-two low true true h = let e : (low + 64 + 128) / 64 % 2 ≡ 1 = omega arith in rw e
-high-two low true false h = let e : (low + 64 + 0) / 64 % 2 ≡ 1 = omega arith in rw e
-high-two low false true h = let e : (low + 0 + 128) / 64 % 2 ≡ 0 = omega arith in rw e
-high-two low false false h = let e : (low + 0 + 0) / 64 % 2 ≡ 0 = omega arith in rw e
 
 rr0-d6 : (c : Channel) (pending : Bool)
     → odd (rr0 c pending / 64) ≡ shownBits (c .status) (liveOf c) .underrun
 unfolding rr0
 rr0-d6 c pending =
     let s = shownBits (c .status) (liveOf c) in
-    high-two (placed (waits (c .queue)) 0b1 + placed pending 0b10 + placed
+    d6-of (placed (waits (c .queue)) 0b1 + placed pending 0b10 + placed
     (bufferReady (sendingOf (c .registers) (c .lines)) (c .sender)) 0b100 + placed
     (s .dcd) 0b1000 + placed (s .hunt) 0b10000 + placed (s .cts) 0b100000)
     (s .underrun) (s .abort)
@@ -73,17 +63,10 @@ rr0-d6 c pending =
       placed-le (s .cts) 0b100000,
     ))
 
-read-rr0 : (c : Channel) (pending : Bool) (vector : ℕ) → c .pointer ≡ 0
-    → readRegister c pending vector ≡ rr0 c pending
-unfolding readRegister
-read-rr0 c pending vector p = let q : eqb (c .pointer) 0 ≡ true = ap (λ (n : ℕ). eqb n 0) p in rw q
-
 pub d6-read : (w : Which) (c : Chip) → chan w c .pointer ≡ 0
     → d6 w c ≡ shownBits (chan w c .status) (liveOf (chan w c)) .underrun
-unfolding controlReadCall
-d6-read A c p =
-    ap (λ (v : ℕ). odd (v / 64)) (read-rr0 (c .a) (anyPending c) 0 p) ∙ rr0-d6 (c .a) (anyPending c)
-d6-read B c p = ap (λ (v : ℕ). odd (v / 64)) (read-rr0 (c .b) false (rr2 c) p) ∙ rr0-d6 (c .b) false
+d6-read w c p =
+    ap (λ (v : ℕ). odd (v / 64)) (reads-rr0 w c p) ∙ rr0-d6 (chan w c) (pendingIn w c)
 
 -- Shown once set
 

@@ -27,7 +27,7 @@ use Rattle.whole.specs.Come.{flagTail}
 use Rattle.whole.specs.Start.{flagHead}
 use Rattle.stories.specs.Story.{Which, number, chan, happens, after}
 use Rattle.stories.specs.Sent.{isTick, lineBit, lineOf, ticks}
-use Rattle.history.specs.Sending.Side.{SenderSide, side, sendingIn, sideOf}
+use Rattle.history.specs.Sending.Side.{SenderSide, side, sendingIn, part, sideOf}
 use Rattle.history.specs.Sending.Events.{ticksTo, ticks-to, tick-gives, tick-more, skip-line}
 use Rattle.history.specs.Sending.Events.{skip-ticks}
 use Rattle.starts.specs.Statement.{OnAir, flagNext, GoesOn, ended, kept, ticking, WhereStarts}
@@ -47,7 +47,7 @@ air-ticks w c a =
 air-side : (w : Which) (c : Chip) → OnAir w c
     → sideOf w (happens c (Transmit (number w)) .chip)
     ≡ side (tickedOn w c .framer) (sideOf w c .heeds)
-air-side w c a = ticks-to w c ∙ ap (ticksTo w c) (air-ticks w c a)
+air-side w c a = ticks-to part w c ∙ ap (ticksTo part w c) (air-ticks w c a)
 
 air-bit : (w : Which) (c : Chip) → OnAir w c
     → lineBit (isTick w (Transmit (number w))) (happens c (Transmit (number w)) .answer)

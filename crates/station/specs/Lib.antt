@@ -1,3 +1,4 @@
+pub mod Fed
 pub mod Answers
 pub mod Station
 pub mod Laws

@@ -1,11 +1,12 @@
 // The planner's side: a station sends notes through channel A of a chip, a list note by note. Any chip is accepted, whatever its channel A was
 // doing. Assumes nothing.
+mod fitting;
 mod list;
 
+use crate::fitting::send_fitting;
 use crate::list::send_notes;
 use chip::Chip;
 use common::Refusal;
-use fitting::send_note;
 use flags::Between;
 use line::note_fits;
 use notes::Scanned;
@@ -114,7 +115,7 @@ pub fn send(c: Chip, note: &[u8]) -> Sent
     ensures { λ r. ⌜ r ≡ sendOf c (now (note .entry)) ⌝ }
 {
     if note_fits(note.len()) {
-        let w = send_note(c, note);
+        let w = send_fitting(c, note);
         let d = w.chip;
         return Sent {
             told: Told::Gone {

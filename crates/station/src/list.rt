@@ -2,8 +2,9 @@
 use crate::ListSent;
 use crate::Listed;
 use crate::ROW;
+use crate::fitting::before_note;
+use crate::fitting::send_fitting;
 use chip::Chip;
-use fitting::send_next;
 use flags::Between;
 use head::LENGTH_BYTES;
 use head::note_at;
@@ -41,7 +42,7 @@ fn put_row(
 
 // Every note of a list in which the scan found so many.
 pub(crate) fn send_notes(
-    c: Chip,
+    mut c: Chip,
     list: &[u8],
     rows: &mut [usize],
     n: usize,
@@ -52,18 +53,17 @@ pub(crate) fn send_notes(
     ensures { λ r. ⌜ now (rows .exit) ≡ rowsIn (now (rows .entry)) (reportOf between (now (list .entry))) ⌝ }
 {
     let told = n <= rows.len() / ROW;
-    let mut d = c;
     let mut i = FIRST_NOTE;
     let mut notes: usize = 0;
     let mut sum: usize = 0;
     while notes < n {
         let note = note_at(list, i);
-        let w = send_next(d, between, notes, note);
+        let w = send_fitting(before_note(c, between, notes), note);
         let m = notes + 1;
         put_row(rows, told, ROW * notes, m, note.len(), w.zeros, w.ticks);
         sum = sum + w.ticks;
         notes = m;
-        d = w.chip;
+        c = w.chip;
         i = i + LENGTH_BYTES + note.len();
     }
     ListSent {
@@ -71,6 +71,6 @@ pub(crate) fn send_notes(
             notes,
             ticks: between.in_all(sum, notes),
         },
-        chip: d,
+        chip: c,
     }
 }

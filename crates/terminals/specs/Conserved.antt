@@ -1,51 +1,38 @@
 -- Conservation, for any ticks: what was read, then what waits, is what waited before, then what was
 -- handed over. Assumes nothing.
 use mathlib.Core.Path.{_≡_, refl, sym, ap, ap₂, _∙_, subst}
-use mathlib.Core.Bool.{Bool, true, not, _&&_, _||_}
-use mathlib.Core.List.{List, [], _∷_, _++_, append-assoc}
+use mathlib.Core.Bool.{Bool, true, _&&_}
+use mathlib.Core.List.{List, _++_, append-assoc}
 use Prim.Native.Nat.{ℕ}
-use lib.Dec.{ltb}
 use Rattle.entry.specs.declared.Entry.{Entry}
 use Rattle.queue.specs.declared.Queue.{Queue}
-use Rattle.queue.specs.Queue.{room, taken, oldest, waits}
+use Rattle.queue.specs.Queue.{taken, oldest, waits}
 use Rattle.queue.specs.Laws.{read-holds}
 use Rattle.queue.specs.Holding.{Holds, entryIf}
 use Rattle.bytesync.specs.declared.Reception.{Reception}
-use Rattle.bytesync.specs.declared.Matched.{Matched}
 use Rattle.bytesync.specs.Hearing.{hearBlock}
 use Rattle.bytesync.specs.Laws.Plain.{hear-plain}
 use Rattle.blocks.specs.Heard.{Moment, heeding, Final, final, handed, before, hearAll}
 use Rattle.chip.specs.declared.Chip.{Chip}
 use Rattle.chip.specs.Event.{Event}
 use Rattle.stories.specs.Story.{Which, chan, happens, after}
-use Rattle.stories.specs.Received.{ToReceiver, Hears, Reads, Else, toReceiver}
-use Rattle.stories.specs.Received.{isRead, taking, tookOf}
+use Rattle.stories.specs.Received.{ToReceiver, isRead, taking, tookOf}
 use Rattle.terminals.specs.Side.{Heeded, Side, side, sideOf, checkingOf, momentIn}
 use Rattle.terminals.specs.Side.{momentsOf}
-use Rattle.history.specs.Receiving.Events.{queue-takes}
-use Rattle.terminals.specs.Events.{queuedBy, heardBy, heardSide, readSide, Follows}
+use Rattle.history.specs.Receiving.Events.{queuedIf, roomIf, queue-takes}
+use Rattle.history.specs.Receiving.Stories.{HearsWhere, over, hears, reads, still}
+use Rattle.terminals.specs.Events.{matchedBy, heardSide, readSide, Follows}
 use Rattle.terminals.specs.Events.{Hearing, follows}
 
 -- "stays on .. read before a fourth character waits and else untouched but for WR3 D3": a tick that
 -- hands a character over finds room, reads come as they like, and what else happens leaves the side
 -- as it was
 
-abbrev pub roomFor : Queue → Matched → Bool
-roomFor q h = not (h .some) || ltb (q .count) room
-
 abbrev pub roomy : Side → Bool → Bool → Bool
-roomy x i b = roomFor (x .queue) (heardBy i b x)
+roomy x i b = roomIf (matchedBy i b x .some) (x .queue)
 
-pub data Fed (w : Which) : Chip → List Event → Type 0 where
-  over : {c : Chip} → Fed w c []
-  hears : {c : Chip} {e : Event} {st : List Event} {b : Bool} → toReceiver w e ≡ Hears b
-      → roomy (sideOf w c) (checkingOf w c) b ≡ true → Fed w (happens c e .chip) st
-      → Fed w c (e ∷ st)
-  reads : {c : Chip} {e : Event} {st : List Event} → toReceiver w e ≡ Reads
-      → Fed w (happens c e .chip) st → Fed w c (e ∷ st)
-  still : {c : Chip} {e : Event} {st : List Event} → toReceiver w e ≡ Else
-      → sideOf w (happens c e .chip) ≡ sideOf w c → Fed w (happens c e .chip) st
-      → Fed w c (e ∷ st)
+abbrev pub Fed : Which → Chip → List Event → Type 0
+Fed w c st = HearsWhere (sideOf w) (λ d b. roomy (sideOf w d) (checkingOf w d) b ≡ true) w c st
 
 before-join : (xs ys : List Entry) (f : Final) → before xs (before ys f) ≡ before (xs ++ ys) f
 before-join xs ys f =
@@ -133,9 +120,9 @@ conserved w (hears {c = c} {e = x} {st = st} {b = b} z s i) r k q h es d e m =
     let f : sideOf w (happens c x .chip) ≡ heardSide j b (sideOf w c) =
     subst (Follows w c (happens c x .chip)) z
     (follows w c x (subst Hearing (sym (ap (λ (y : Side). y .heeds) e)) d)) in
-    let space : roomFor q u ≡ true = ap (λ (y : Side). roomy y j b) (sym e) ∙ s in
-    let n = conserved w i (u .reception) (u .check) (queuedBy q u) h (es ++ handed u) d
-    (f ∙ ap (heardSide j b) e)
+    let space : roomIf (u .some) q ≡ true = ap (λ (y : Side). roomy y j b) (sym e) ∙ s in
+    let n = conserved w i (u .reception) (u .check) (queuedIf (u .some) q (u .entry)) h
+    (es ++ handed u) d (f ∙ ap (heardSide j b) e)
     (queue-takes (u .some) (u .entry) m space (hear-plain (heeding g j) r k b)) in
     let ts = momentsOf w (happens c x .chip) st in
     record {

@@ -1,6 +1,7 @@
 -- Which events leave the receiving side of a channel as it was: a test that a reader can run, and
--- the proof that it is enough. WR3 D3 may be written as the host likes. Assumes nothing.
-use mathlib.Core.Path.{_≡_, refl, ap, _∙_}
+-- the proof that it is enough. Of its own a mode here says WR3, WR5 and WR7; WR3 D3 may be written
+-- as the host likes. Assumes nothing.
+use mathlib.Core.Path.{_≡_, ap, _∙_}
 use mathlib.Core.Bool.{Bool, true, false, not, _&&_, _||_, Bool·beq}
 use Prim.Native.Nat.{ℕ, _/_}
 use Rattle.common.specs.Choice.{if_then_else_}
@@ -12,19 +13,15 @@ use Rattle.receiver.specs.Receiver.{enterHunt}
 use Rattle.settings.specs.declared.Registers.{Registers}
 use Rattle.settings.specs.Settings.{store3, store5, entersHunt, autoEnables, modeIn, syncsIn}
 use Rattle.settings.specs.Settings.{receivingOf}
-use Rattle.channel.specs.declared.Side as channel
-use Rattle.channel.specs.declared.Side.the-variants as channels
 use Rattle.channel.specs.declared.Channel.{Channel}
-use Rattle.channel.specs.Channel.{withRegisters, withReceiver, settled}
-use Rattle.channel.specs.Control.{setWr1, setWr2, setWr3}
-use Rattle.channel.specs.Events.{linesSet}
+use Rattle.channel.specs.Channel.{withRegisters, withReceiver}
+use Rattle.channel.specs.Control.{setWr3}
 use Rattle.chip.specs.declared.Chip.{Chip}
 use Rattle.chip.specs.Event.{Event}
 use Rattle.stories.specs.Story.{Which, happens}
-use Rattle.history.specs.Tools.{same-is, still-on}
+use Rattle.history.specs.Tools.{same-is}
 use Rattle.history.specs.Quiet.{Test, quietBy, KeptIn, Keeps, quiet-kept}
-use Rattle.history.specs.Receiving.Quiet.{quietWr0, quietDcd, heardPart, wr0-kept, write-kept}
-use Rattle.history.specs.Receiving.Quiet.{transmit-kept}
+use Rattle.history.specs.Receiving.Quiet.{heardTest, heardPart, heard-keeps}
 use Rattle.terminals.specs.Side.{Side, side, part, sideIn, sideOf}
 
 -- The test
@@ -40,21 +37,8 @@ quietWr3 r v =
 abbrev pub quietWr5 : Registers → ℕ → Bool
 quietWr5 r v = Bool·beq (odd (v / 4)) (odd (r .wr5 / 4))
 
--- all but receive ticks and data reads, and what writes its receiver or queue or sets it anew
 abbrev pub test : Test
-test = record {
-  wr0 = quietWr0;
-  wr3 = quietWr3;
-  wr4 = λ r v. false;
-  wr5 = quietWr5;
-  wr6 = λ r v. false;
-  wr7 = λ r v. false;
-  data-writes = true;
-  data-reads = false;
-  transmits = true;
-  receives = false;
-  lines = λ c dcd cts. quietDcd c dcd;
-}
+test = heardTest quietWr3 quietWr5 (λ r v. false)
 
 abbrev pub quiet : Which → Chip → Event → Bool
 quiet w c e = quietBy test w c e
@@ -78,15 +62,6 @@ told c on strip enabled d2 =
         polynomial = polynomialOf d2;
       };
     })
-
-wr1-kept : (c : Channel) (v : ℕ) → KeptSide c (setWr1 c v)
-unfolding receivingOf
-wr1-kept c v = refl
-
-wr2-kept : (c : Channel) (w : channel.Side) (v : ℕ) → KeptSide c (setWr2 c w v)
-unfolding receivingOf
-wr2-kept c channels.A v = refl
-wr2-kept c channels.B v = refl
 
 -- Enter Hunt clear: the register alone is written
 wr3-written : (c : Channel) (v : ℕ) → entersHunt v ≡ false
@@ -120,29 +95,8 @@ wr5-kept c v q =
     ap (told c (odd (r .wr3)) (odd (r .wr3 / 2)) (not (autoEnables r) || c .lines .dcd))
     (same-is (odd (v / 4)) (odd (r .wr5 / 4)) q)
 
-lines-kept : (c : Channel) (d t : Bool) → quietDcd c d ≡ true → KeptSide c (linesSet c d t)
-unfolding linesSet settled receivingOf
-lines-kept c d t q =
-    let r = c .registers in
-    ap (λ (b : Bool). told c (odd (r .wr3)) (odd (r .wr3 / 2)) b (odd (r .wr5 / 4)))
-    (still-on (autoEnables r) d (c .lines .dcd) q)
-
 keeps : Keeps (heardPart part) test
-keeps = record {
-  wr0 = wr0-kept part;
-  wr1 = wr1-kept;
-  wr2 = wr2-kept;
-  wr3 = wr3-kept;
-  wr4 = λ c v n q. void q;
-  wr5 = wr5-kept;
-  wr6 = λ c v q. void q;
-  wr7 = λ c v q. void q;
-  data-writes = λ c v q. write-kept part c v;
-  data-reads = λ c q. void q;
-  transmits = λ c q. transmit-kept part c;
-  receives = λ c b q. void q;
-  lines = lines-kept;
-}
+keeps = heard-keeps part quietWr3 quietWr5 (λ r v. false) wr3-kept wr5-kept (λ c v q. void q)
 
 pub quiet-keeps : (w : Which) (c : Chip) (e : Event) → quiet w c e ≡ true
     → sideOf w (happens c e .chip) ≡ sideOf w c

@@ -6,7 +6,6 @@ use Prim.Native.Nat.{ℕ}
 use Rattle.common.specs.Choice.{if_then_else_}
 use Rattle.common.specs.Mode.{inBlocks}
 use Rattle.common.specs.Tools.{bool-or, void}
-use Rattle.common.specs.declared.Refusal.the-variants as refusal
 use Rattle.shared.specs.Preset.{zeros}
 use Rattle.bytesync.specs.declared.Reception.{Reception}
 use Rattle.bytesync.specs.Hearing.{searching, hearBlock}
@@ -24,8 +23,10 @@ use Rattle.chip.specs.Event.{Event}
 use Rattle.stories.specs.Story.{Which, chan, happens, after}
 use Rattle.stories.specs.Received.{ToReceiver, Hears, Reads, Else, toReceiver, bitIn}
 use Rattle.history.specs.Receiving.Roles.{by-role}
-use Rattle.terminals.specs.Side.{receivingIn, sideOf}
-use Rattle.terminals.specs.Events.{hear-on, hear-off}
+use Rattle.history.specs.Receiving.Side.{receivingIn}
+use Rattle.terminals.specs.Side.{sideOf}
+use Rattle.receiver.specs.Laws.Tick.{hear-blocks}
+use Rattle.terminals.specs.Events.{hear-off}
 use Rattle.terminals.specs.Statement.{receptionOf, checkOf, Since, over, hears}
 use Rattle.terminals.specs.Statement.{searches, still, taleOf, talesOf, RegisterIs}
 use Rattle.terminals.specs.Statement.{RegisterSincePreset}
@@ -124,7 +125,7 @@ tick-enters w c d b ts m e s =
     (λ o.
     let h = hearBlock (g .matching) (r .reception) (r .check) b in
     let q : chan w d .receiver ≡ byMatched r h .receiver =
-    e ∙ ap (λ (x : Heard). x .receiver) (hear-on g r b m o) in
+    e ∙ ap (λ (x : Heard). x .receiver) (hear-blocks g r b m o) in
     let t : taleOf w c d (Hears b) ≡ tale = ap (λ (z : Bool). if z then tale else Hunt) o in
     ap (λ (x : Receiver). Enters (x .reception) (x .check) ts) q
     ∙ ticked (g .matching) (r .reception) (r .check) b ts

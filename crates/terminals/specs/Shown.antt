@@ -1,10 +1,9 @@
 -- What RR0 and RR1 show of the receiver in Monosync and Bisync: D6 of RR1 is the check's, at all
 -- times, and D4 of RR0 is hunt. Assumes nothing.
 use mathlib.Core.Path.{_≡_, ap, _∙_}
-use mathlib.Core.Bool.{Bool, true, false}
+use mathlib.Core.Bool.{Bool, true}
 use Prim.Native.Nat.{ℕ, _+_, _*_, _/_, _≤_}
 use native.Mathlib.Omega.{arith}
-use lib.Dec.{eqb}
 use Rattle.common.specs.Bit.{placed}
 use Rattle.common.specs.Choice.{if_then_else_}
 use Rattle.common.specs.Mode.{inBlocks}
@@ -18,30 +17,14 @@ use Rattle.settings.specs.Settings.{sendingOf, receivingOf}
 use Rattle.status.specs.Status.{shownBits}
 use Rattle.channel.specs.declared.Channel.{Channel}
 use Rattle.channel.specs.Channel.{liveOf}
-use Rattle.channel.specs.Control.{rr0, rr1Now, readRegister}
+use Rattle.channel.specs.Control.{rr0, rr1Now}
 use Rattle.chip.specs.declared.Chip.{Chip}
-use Rattle.chip.specs.Interrupts.{anyPending, rr2}
-use Rattle.chip.specs.Chip.{controlReadCall}
-use Rattle.stories.specs.Story.{Which, A, B, chan}
+use Rattle.stories.specs.Story.{Which, chan}
+use Rattle.history.specs.Read.{pendingIn, reads-rr0, reads-rr1, placed-le, placed-is, d6-of}
 use Rattle.terminals.specs.Side.{sideIn, sideOf}
 use Rattle.terminals.specs.Statement.{rr1D6, d4}
 
-placed-le : (b : Bool) (w : ℕ) → placed b w ≤ w
-placed-le true w = omega arith
-placed-le false w = omega arith
-
-placed-is : (b : Bool) (w : ℕ) → placed b w ≡ oneIf b * w
-placed-is true w = omega arith
-placed-is false w = omega arith
-
 -- RR1 D6
-
-d6-of : (low : ℕ) (error ends : Bool) → low ≤ 63
-    → odd ((low + placed error 64 + placed ends 128) / 64) ≡ error
-d6-of low error ends h =
-    let e : (low + placed error 64 + placed ends 128) / 64 ≡ oneIf ends * 2 + oneIf error =
-    omega (arith, placed-is error 64, placed-is ends 128) in
-    rw e (odd-joined (oneIf ends) error)
 
 told-d6 : (q : Queue) (sent error : Bool) → odd (rr1Told q sent error / 64) ≡ error
 unfolding rr1Told
@@ -67,20 +50,10 @@ rr1-d6 c m =
     else rr1 (c .queue) sent) / 64))
     m ∙ told-d6 (c .queue) sent (wrong (c .receiver .check))
 
-read-rr1 : (c : Channel) (pending : Bool) (vector : ℕ) → c .pointer ≡ 1
-    → readRegister c pending vector ≡ rr1Now c
-unfolding readRegister
-read-rr1 c pending vector p =
-    ap (λ (n : ℕ). if eqb n 0 then rr0 c pending
-    else (if eqb n 1 then rr1Now c else (if eqb n 2 then vector else 0))) p
-
 -- "RR1 D6 is then 1 exactly while that check is not zero"
 pub d6-is : (w : Which) (c : Chip) → inBlocks (sideOf w c .heeds .mode) ≡ true
     → chan w c .pointer ≡ 1 → rr1D6 w c ≡ wrong (chan w c .receiver .check)
-unfolding controlReadCall
-d6-is A c m p =
-    ap (λ (v : ℕ). odd (v / 64)) (read-rr1 (c .a) (anyPending c) 0 p) ∙ rr1-d6 (c .a) m
-d6-is B c m p = ap (λ (v : ℕ). odd (v / 64)) (read-rr1 (c .b) false (rr2 c) p) ∙ rr1-d6 (c .b) m
+d6-is w c m p = ap (λ (v : ℕ). odd (v / 64)) (reads-rr1 w c p) ∙ rr1-d6 (chan w c) m
 
 -- RR0 D4
 
@@ -117,17 +90,7 @@ rr0-d4 c pending =
       placed-le (s .dcd) 0b1000,
     ))
 
-read-rr0 : (c : Channel) (pending : Bool) (vector : ℕ) → c .pointer ≡ 0
-    → readRegister c pending vector ≡ rr0 c pending
-unfolding readRegister
-read-rr0 c pending vector p =
-    ap (λ (n : ℕ). if eqb n 0 then rr0 c pending
-    else (if eqb n 1 then rr1Now c else (if eqb n 2 then vector else 0))) p
-
 pub d4-is : (w : Which) (c : Chip) → chan w c .pointer ≡ 0
     → d4 w c ≡ shownBits (chan w c .status) (liveOf (chan w c)) .hunt
-unfolding controlReadCall
-d4-is A c p =
-    ap (λ (v : ℕ). odd (v / 16)) (read-rr0 (c .a) (anyPending c) 0 p) ∙ rr0-d4 (c .a) (anyPending c)
-d4-is B c p =
-    ap (λ (v : ℕ). odd (v / 16)) (read-rr0 (c .b) false (rr2 c) p) ∙ rr0-d4 (c .b) false
+d4-is w c p =
+    ap (λ (v : ℕ). odd (v / 16)) (reads-rr0 w c p) ∙ rr0-d4 (chan w c) (pendingIn w c)

@@ -11,14 +11,12 @@ use Rattle.bytesync.specs.declared.Reception.{Reception}
 use Rattle.blocks.specs.Heard.{Moment, moment, heeding}
 use Rattle.receiver.specs.declared.Receiver.{Receiver}
 use Rattle.receiver.specs.declared.Receiving.{Receiving}
-use Rattle.settings.specs.declared.Registers.{Registers}
-use Rattle.settings.specs.declared.Lines.{Lines}
-use Rattle.settings.specs.Settings.{receivingOf}
 use Rattle.channel.specs.declared.Channel.{Channel}
 use Rattle.chip.specs.declared.Chip.{Chip}
 use Rattle.chip.specs.Event.{Event}
 use Rattle.stories.specs.Story.{Which, chan, happens}
 use Rattle.stories.specs.Received.{ToReceiver, Hears, Reads, Else, toReceiver}
+use Rattle.history.specs.Receiving.Side.{receivingIn}
 
 -- what the two modes heed of the settings; WR3 D3 stands as clear
 pub record Heeded : Type 0 where
@@ -38,14 +36,11 @@ pub record Side : Type 0 where
 abbrev pub side : Reception → ℕ → Queue → Heeded → Side
 side r k q h = record { reception = r; check = k; queue = q; heeds = h }
 
-abbrev pub receivingIn : Channel → Receiving
-receivingIn c = receivingOf (c .registers) (c .lines)
-
-abbrev pub part : Registers → Lines → Receiver → Queue → Side
-part r l v q = side (v .reception) (v .check) q (heeded (receivingOf r l))
+abbrev pub part : Receiving → Receiver → Queue → Side
+part g v q = side (v .reception) (v .check) q (heeded g)
 
 abbrev pub sideIn : Channel → Side
-sideIn c = part (c .registers) (c .lines) (c .receiver) (c .queue)
+sideIn c = part (receivingIn c) (c .receiver) (c .queue)
 
 abbrev pub sideOf : Which → Chip → Side
 sideOf w c = sideIn (chan w c)

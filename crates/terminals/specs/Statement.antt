@@ -31,7 +31,8 @@ use Rattle.stories.specs.Story.{Which, number, chan, happens, after}
 use Rattle.stories.specs.Received.{ToReceiver, Hears, Reads, Else, toReceiver, bitIn, bitsOf}
 use Rattle.stories.specs.Received.{valuesOf, tookOf}
 use Rattle.stories.specs.Received.{bytesOf}
-use Rattle.terminals.specs.Side.{Side, receivingIn, sideOf, momentsOf}
+use Rattle.history.specs.Receiving.Side.{receivingIn}
+use Rattle.terminals.specs.Side.{Side, sideOf, momentsOf}
 use Rattle.terminals.specs.Conserved.{Fed}
 
 -- A receiver that is on, hunt begun, its check preset, queue empty. WR6 and WR7 are bytes, and the

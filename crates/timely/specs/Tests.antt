@@ -10,13 +10,13 @@ use Rattle.common.specs.Tools.{void, both-left, both-right, not-true}
 use Rattle.chip.specs.declared.Chip.{Chip}
 use Rattle.chip.specs.Event.{Event}
 use Rattle.whole.specs.Stage.{sinceAfter, inTime}
-use Rattle.stories.specs.Story.{Which, happens, throughout, throughout-holds}
+use Rattle.stories.specs.Story.{Which, happens}
 use Rattle.stories.specs.Sent.{ToSender, Ticks, Writes, Else, toSender}
 use Rattle.history.specs.Sending.Side.{fullOf, latchOf, View, its-tick, its-write, other, view}
 use Rattle.history.specs.Sending.Quiet.{quiet, quiet-keeps}
+use Rattle.history.specs.Sending.Stories.{ticksWhere, ticks-where}
 use Rattle.timely.specs.InTime.{InTime, over, still, writes, next-frame, ticking}
 use Rattle.timely.specs.Free.{Free}
-use Rattle.timely.specs.Free as stated
 
 -- a tick before the deadline; the next byte, into the empty buffer; nothing else that touches the
 -- sender
@@ -79,21 +79,8 @@ in-time w c n rest (e ∷ st) t =
 
 -- The free host, likewise
 
-abbrev pub free : Which → Chip → Event → ToSender → Bool
-free w c e Ticks = true
-free w c e (Writes b) = true
-free w c e Else = quiet w c e
-
 abbrev pub freely : Which → Chip → List Event → Bool
-freely w c st = throughout (λ d e. free w d e (toSender w e)) c st
-
-one-free : (w : Which) (c : Chip) (e : Event) (st : List Event) (r : ToSender) → View w e r
-    → toSender w e ≡ r → free w c e r ≡ true → Free w (happens c e .chip) st → Free w c (e ∷ st)
-one-free w c _ st Ticks its-tick q a f = stated.ticking f
-one-free w c _ st (Writes b) its-write q a f = stated.writes f
-one-free w c e st Else other q a f = stated.still q (quiet-keeps w c e a) f
+freely w c st = ticksWhere (λ d. true) w c st
 
 pub free-of : (w : Which) (c : Chip) (st : List Event) → freely w c st ≡ true → Free w c st
-free-of w c st t =
-    throughout-holds (λ d e. free w d e (toSender w e)) (Free w) (λ d. stated.ended)
-    (λ d e xs. one-free w d e xs (toSender w e) (view w e) refl) c st t
+free-of w c st t = ticks-where (λ d. Unit) (λ d. true) (λ d e. tt) w c st t

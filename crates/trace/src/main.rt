@@ -1,7 +1,7 @@
 // Reads events from standard input, four bytes each, plays them on a chip and prints a line for each. All that matters is in the crates chip,
 // script and events.
 use chip::Chip;
-use text::LONGEST;
+use text::Line;
 
 // So many bytes are printed.
 fn say(bytes: &[u8], n: usize) {
@@ -11,8 +11,9 @@ fn say(bytes: &[u8], n: usize) {
 }
 
 // A line is printed.
-fn say_line(text: &[u8; LONGEST], size: usize) {
-    say(text, size);
+fn say_line(l: Line) {
+    let text = l.text;
+    say(&text, l.size);
 }
 
 // More lines than a run can have.
@@ -24,12 +25,10 @@ fn play(events: &[u8]) {
     let mut left = LINES;
     while 0 < left {
         let t = events::next(chip, events, at);
-        let l = t.line;
-        if l.size == 0 {
+        if t.line.size == 0 {
             return;
         }
-        let text = l.text;
-        say_line(&text, l.size);
+        say_line(t.line);
         chip = t.chip;
         at = t.at;
         left = left - 1;

@@ -23,10 +23,11 @@ use Rattle.bytesync.specs.declared.Synced.{Synced}
 use Rattle.bytesync.specs.Syncs.{pair}
 use Rattle.bytesync.specs.Sending.{sentBit, syncSent, syncLeft, startSync, startByte, startCheck}
 use Rattle.bytesync.specs.Sending.{following, tickBlock, sendsCheck}
+use Rattle.whole.specs.Come.{waiting}
 use Rattle.blocks.specs.Check.{checkFrom}
 use Rattle.blocks.specs.Come.{Good, Sends, sends, ticked, filledWith, syncBits, behind}
-use Rattle.blocks.specs.Come.{closed, waiting, toCome, inTime, Stage, atMark, opening, inByte}
-use Rattle.blocks.specs.Come.{inCheck, inTail, closing}
+use Rattle.blocks.specs.Come.{closed, toCome, chooses, inTime, Stage, atMark}
+use Rattle.blocks.specs.Come.{opening, inByte, inCheck, inTail, closing}
 use Rattle.blocks.specs.Laws.Hunt.{lowBits-above}
 
 -- Bits
@@ -115,26 +116,14 @@ module _ (g : Syncing) (h : Good g) where
   next-on u k n e =
       ap (λ (o : Bool). if o then following g u k else sentBit true Mark k) (h .on) ∙ e
 
-  sync-byte : (b c v : ℕ) (l : Bool)
-      → tickBlock g (Sync 0 v) (shared b true l c) ≡ byteStarted b l c
-  unfolding tickBlock
-  sync-byte b c v l =
-      next-on (Sync 0 v) (shared b true l c) (byteStarted b l c)
-      (unfold following in (entered-is b l c))
-
-  byte-byte : (b c v : ℕ) (l : Bool)
-      → tickBlock g (Byte 0 v) (shared b true l c) ≡ byteStarted b l c
-  unfolding tickBlock
-  byte-byte b c v l =
-      next-on (Byte 0 v) (shared b true l c) (byteStarted b l c)
-      (unfold following in (entered-is b l c))
-
-  check-byte : (b c v : ℕ) (l : Bool)
-      → tickBlock g (Check 0 v) (shared b true l c) ≡ byteStarted b l c
-  unfolding tickBlock
-  check-byte b c v l =
-      next-on (Check 0 v) (shared b true l c) (byteStarted b l c)
-      (unfold following in (entered-is b l c))
+  -- the byte that waits
+  byte-starts : (u : BlockUnit) → chooses u ≡ true → (b c : ℕ) (l : Bool)
+      → tickBlock g u (shared b true l c) ≡ byteStarted b l c
+  unfolding tickBlock following
+  byte-starts Mark e b c l = void e
+  byte-starts (Sync n v) e b c l = rw (e, h .on) (entered-is b l c)
+  byte-starts (Byte n v) e b c l = rw (e, h .on) (entered-is b l c)
+  byte-starts (Check n v) e b c l = rw (e, h .on) (entered-is b l c)
 
   -- "At an underrun .. the check if the latch is clear and WR5 D0 set, and sets the latch"
   pub check-begins : (b c v : ℕ)
@@ -146,15 +135,14 @@ module _ (g : Syncing) (h : Good g) where
       (unfold following in
       (ap (λ (i : Bool). if i then startCheck k else startSync g k) (h .included)))
 
-  tail-sync : (b c v : ℕ)
-      → tickBlock g (Byte 0 v) (shared b false true c) ≡ startSync g (shared b false true c)
+  -- none waits, and the latch is set
+  sync-follows : (u : BlockUnit) → chooses u ≡ true → (b c : ℕ)
+      → tickBlock g u (shared b false true c) ≡ startSync g (shared b false true c)
   unfolding tickBlock following
-  tail-sync b c v = rw (h .on)
-
-  check-sync : (b c v : ℕ)
-      → tickBlock g (Check 0 v) (shared b false true c) ≡ startSync g (shared b false true c)
-  unfolding tickBlock following
-  check-sync b c v = rw (h .on)
+  sync-follows Mark e b c = void e
+  sync-follows (Sync n v) e b c = rw (e, h .on)
+  sync-follows (Byte n v) e b c = rw (e, h .on)
+  sync-follows (Check n v) e b c = rw (e, h .on)
 
 -- a tick in time takes the first bit of what is to come, and goes on to a stage; while the latch is
 -- clear, the tick sets it exactly if it begins the check
@@ -179,6 +167,34 @@ by-tick {g} {s} {rest} {tail} n e h t l =
           s .shared .latch ≡ false → x .shared .latch ≡ sendsCheck (x .unit)) (sym e) l;
     }
 
+-- behind a unit of which nothing is left, so that what is to come is what is behind it: a byte of
+-- the block, a byte behind the check, the sync behind all of them
+module _ (g : Syncing) (h : Good g) (u : BlockUnit) (over : chooses u ≡ true) where
+  takes-byte : (b c : ℕ) (rest tail : List ℕ)
+      → toCome g (sends u (shared b true false c)) rest tail ≡ closed g c (b ∷ rest) tail
+      → Takes g (sends u (shared b true false c)) rest tail
+  takes-byte b c rest tail e =
+      by-tick (byteStarted g h b false c) (byte-starts g h u over b c false)
+      (e ∙ load g b c rest tail)
+      (inByte 7 (b / 2) b false (checkOver (g .polynomial) c (lowBits 8 b)) rest tail) (λ l. refl)
+
+  takes-behind : (b c : ℕ) (tail : List ℕ)
+      → toCome g (sends u (shared b true true c)) [] tail ≡ behind g (b ∷ tail)
+      → Takes g (sends u (shared b true true c)) [] tail
+  takes-behind b c tail e =
+      by-tick (byteStarted g h b true c) (byte-starts g h u over b c true)
+      (e ∙ byte-first b tail (syncBits (g .syncs)))
+      (inTail 7 (b / 2) b false (checkOver (g .polynomial) c (lowBits 8 b)) tail)
+      (λ l. void (sym l))
+
+  takes-sync : (b c : ℕ) → toCome g (sends u (shared b false true c)) [] [] ≡ behind g []
+      → Takes g (sends u (shared b false true c)) [] []
+  takes-sync b c e =
+      let y = g .syncs in
+      by-tick (startSync g (shared b false true c)) (sync-follows g h u over b c)
+      (e ∙ (unfold textBits in (sync-starts y (h .first))))
+      (closing (syncLeft y) (syncSent y / 2) b c) (λ l. void (sym l))
+
 pub takes : (g : Syncing) → Good g → {s : Sends} {rest tail : List ℕ} → Stage s rest tail
     → inTime s rest tail ≡ true → 1 ≤ length (toCome g s rest tail) → Takes g s rest tail
 takes g h (atMark b f c rest tail s) t l =
@@ -193,9 +209,7 @@ takes g h (opening (suc n) v b f c rest tail s) t l =
     by-tick (sentBit (odd v) (Sync n (v / 2)) k) (tick-sync g k n v) (unfold lowBits in refl)
     (opening n (v / 2) b f c rest tail s) (λ e. refl)
 takes g h (opening zero v b true c rest tail s) t l =
-    by-tick (byteStarted g h b false c) (sync-byte g h b c v false)
-    (unfold lowBits in (load g b c rest tail))
-    (inByte 7 (b / 2) b false (checkOver (g .polynomial) c (lowBits 8 b)) rest tail) (λ e. refl)
+    takes-byte g h (Sync 0 v) refl b c rest tail (unfold lowBits in refl)
 takes g h (opening zero v b false c [] tail s) t l = absurd s
 takes g h (opening zero v b false c (x ∷ rest) tail s) t l = void t
 takes g h (inByte (suc n) v b f c rest tail) t l =
@@ -203,9 +217,7 @@ takes g h (inByte (suc n) v b f c rest tail) t l =
     by-tick (sentBit (odd v) (Byte n (v / 2)) k) (tick-byte g k n v) (unfold lowBits in refl)
     (inByte n (v / 2) b f c rest tail) (λ e. refl)
 takes g h (inByte zero v b true c rest tail) t l =
-    by-tick (byteStarted g h b false c) (byte-byte g h b c v false)
-    (unfold lowBits in (load g b c rest tail))
-    (inByte 7 (b / 2) b false (checkOver (g .polynomial) c (lowBits 8 b)) rest tail) (λ e. refl)
+    takes-byte g h (Byte 0 v) refl b c rest tail (unfold lowBits in refl)
 takes g h (inByte zero v b false c [] tail) t l =
     by-tick (startCheck (shared b false true c)) (check-begins g h b c v)
     (unfold lowBits in (closed-none g c tail)) (inCheck 15 (shifted c) b false c tail) (λ e. refl)
@@ -215,28 +227,18 @@ takes g h (inCheck (suc n) v b f c tail) t l =
     by-tick (sentBit (top v) (Check n (shifted v)) k) (tick-check g k n v) (unfold topBits in refl)
     (inCheck n (shifted v) b f c tail) (λ e. refl)
 takes g h (inCheck zero v b true c tail) t l =
-    by-tick (byteStarted g h b true c) (check-byte g h b c v true)
-    (unfold topBits in (byte-first b tail (syncBits (g .syncs))))
-    (inTail 7 (b / 2) b false (checkOver (g .polynomial) c (lowBits 8 b)) tail) (λ e. void (sym e))
+    takes-behind g h (Check 0 v) refl b c tail (unfold topBits in refl)
 takes g h (inCheck zero v b false c []) t l =
-    let y = g .syncs in
-    by-tick (startSync g (shared b false true c)) (check-sync g h b c v)
-    (unfold topBits textBits in (sync-starts y (h .first)))
-    (closing (syncLeft y) (syncSent y / 2) b c) (λ e. void (sym e))
+    takes-sync g h (Check 0 v) refl b c (unfold topBits in refl)
 takes g h (inCheck zero v b false c (x ∷ tail)) t l = void t
 takes g h (inTail (suc n) v b f c tail) t l =
     let k = shared b f true c in
     by-tick (sentBit (odd v) (Byte n (v / 2)) k) (tick-byte g k n v) (unfold lowBits in refl)
     (inTail n (v / 2) b f c tail) (λ e. void (sym e))
 takes g h (inTail zero v b true c tail) t l =
-    by-tick (byteStarted g h b true c) (byte-byte g h b c v true)
-    (unfold lowBits in (byte-first b tail (syncBits (g .syncs))))
-    (inTail 7 (b / 2) b false (checkOver (g .polynomial) c (lowBits 8 b)) tail) (λ e. void (sym e))
+    takes-behind g h (Byte 0 v) refl b c tail (unfold lowBits in refl)
 takes g h (inTail zero v b false c []) t l =
-    let y = g .syncs in
-    by-tick (startSync g (shared b false true c)) (tail-sync g h b c v)
-    (unfold lowBits textBits in (sync-starts y (h .first)))
-    (closing (syncLeft y) (syncSent y / 2) b c) (λ e. void (sym e))
+    takes-sync g h (Byte 0 v) refl b c (unfold lowBits in refl)
 takes g h (inTail zero v b false c (x ∷ tail)) t l = void t
 takes g h (closing (suc n) v b c) t l =
     let k = shared b false true c in

@@ -26,7 +26,7 @@ use Rattle.blocks.specs.Come.{Good, Sends, sends, ticked, filledWith, sy
 use Rattle.blocks.specs.Come.{closed, toCome, Stage, atMark, opening, inByte, inCheck, inTail}
 use Rattle.blocks.specs.Come.{closing, Act, Tick, Write, actsLine, ticks, lastOf, InTime}
 use Rattle.blocks.specs.Come.{over, ticking, writing, writing-behind, syncLength, started}
-use Rattle.blocks.specs.Come.{syncHead, blockBits, anew}
+use Rattle.blocks.specs.Come.{syncHead, blockBits, readied}
 use Rattle.blocks.specs.Laws.Hunt.{lowBits-above}
 use Rattle.blocks.specs.Laws.Come.{takes, moves, moves-behind}
 
@@ -201,16 +201,16 @@ isSync (Sync n v) = true
 isSync (Byte n v) = false
 isSync (Check n v) = false
 
-closing-anew : (g : Syncing) {s : Sends} → Stage s [] [] → (n x v : ℕ) (vs tail : List ℕ)
+closing-readied : (g : Syncing) {s : Sends} → Stage s [] [] → (n x v : ℕ) (vs tail : List ℕ)
     → s .unit ≡ Sync n x → s .shared .latch ≡ true
-    → (toCome g (anew s) (v ∷ vs) tail ≡ toCome g s [] [] ++ closed g zeros (v ∷ vs) tail)
-    × Stage (anew s) (v ∷ vs) tail
-closing-anew g (atMark b f c rest tail s) n x v vs more e l = void l
-closing-anew g (opening m y b f c rest tail s) n x v vs more e l = void l
-closing-anew g (inByte m y b f c rest tail) n x v vs more e l = void l
-closing-anew g (inCheck m y b f c tail) n x v vs more e l = void (ap isSync e)
-closing-anew g (inTail m y b f c tail) n x v vs more e l = void (ap isSync e)
-closing-anew g (closing m y b c) n x v vs more e l =
+    → (toCome g (readied s) (v ∷ vs) tail ≡ toCome g s [] [] ++ closed g zeros (v ∷ vs) tail)
+    × Stage (readied s) (v ∷ vs) tail
+closing-readied g (atMark b f c rest tail s) n x v vs more e l = void l
+closing-readied g (opening m y b f c rest tail s) n x v vs more e l = void l
+closing-readied g (inByte m y b f c rest tail) n x v vs more e l = void l
+closing-readied g (inCheck m y b f c tail) n x v vs more e l = void (ap isSync e)
+closing-readied g (inTail m y b f c tail) n x v vs more e l = void (ap isSync e)
+closing-readied g (closing m y b c) n x v vs more e l =
     (refl, opening m y b false zeros (v ∷ vs) more tt)
 
 pub two-blocks : (g : Syncing) → Good g → (p b v : ℕ) (vs tail : List ℕ) (xs ys : List Act)
@@ -218,9 +218,9 @@ pub two-blocks : (g : Syncing) → Good g → (p b v : ℕ) (vs tail : List ℕ)
     InTime g [] [] s (v ∷ vs) tail xs
     → p + ticks xs ≤ 2 * syncLength (g .syncs) + 8 * length (v ∷ vs) + 16 + 8 * length tail
     → let m = lastOf g s xs in (n x : ℕ) → m .unit ≡ Sync n x → m .shared .latch ≡ true
-    → (w : ℕ) (ws more : List ℕ) → InTime g [] [] (anew m) (w ∷ ws) more ys
-    → ticks ys ≡ length (toCome g (anew m) (w ∷ ws) more)
-    → syncHead (g .syncs) p ++ (actsLine g s xs ++ actsLine g (anew m) ys)
+    → (w : ℕ) (ws more : List ℕ) → InTime g [] [] (readied m) (w ∷ ws) more ys
+    → ticks ys ≡ length (toCome g (readied m) (w ∷ ws) more)
+    → syncHead (g .syncs) p ++ (actsLine g s xs ++ actsLine g (readied m) ys)
     ≡ blockBits g (v ∷ vs) tail ++ closed g zeros (w ∷ ws) more
 two-blocks g h p b v vs tail xs ys l i e n x u f w ws more j d =
     let y = g .syncs in
@@ -228,7 +228,7 @@ two-blocks g h p b v vs tail xs ys l i e n x u f w ws more j d =
     let m = lastOf g s xs in
     let k = in-time-sends g h i (started-stage y p b v vs tail)
     (omega (arith, to-come-length g p b v vs tail)) in
-    let a = closing-anew g (k .stage) n x w ws more u f in
+    let a = closing-readied g (k .stage) n x w ws more u f in
     let next = closed g zeros (w ∷ ws) more in
     let head = syncHead y p in
     ap (λ (z : List Bool). head ++ (actsLine g s xs ++ z)) (all-sent g h j (a .1) d ∙ a .0)

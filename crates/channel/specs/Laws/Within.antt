@@ -131,7 +131,7 @@ still-ticked c t e =
 
 -- what the test says
 
-in-sdlc : (m : Mode) → inSdlc m ≡ true → m ≡ Sdlc
+pub in-sdlc : (m : Mode) → inSdlc m ≡ true → m ≡ Sdlc
 in-sdlc NoMode e = void e
 in-sdlc Asynchronous e = void e
 in-sdlc Monosync e = void e

@@ -11,7 +11,7 @@ enum-told-2 : tie.Need-enum-told-2
 enum-told-2 c = search needs
 
 returns : tie.Need-returns
-returns c = search needs
+returns c = simp (tests, c .enum-told .given .1)
 
 returns-2 : tie.Need-returns-2
 returns-2 c = simp (tests, c .before .enum-told2 .given .1)

@@ -14,18 +14,45 @@ mode-requires c κs = search needs
 same-mode-requires : tie.Need-same-mode-requires
 same-mode-requires c κs = search needs
 
+with-wr4-requires : tie.Need-with-wr4-requires
+with-wr4-requires c κs = search needs
+
 returns : tie.Need-returns
 unfolding setWr4
-returns c = simp (tests, c .if1 .taken, ← c .before .before .before .same-mode .ensures, ← c .before .before .before .before .mode .ensures, ← c .before .before .before .before .before .mode-of .ensures)
+returns c =
+    simp (
+      tests,
+      c .if1 .taken,
+      c .before .with-wr4 .ensures,
+      ← c .before .before .same-mode .ensures,
+      ← c .before .before .before .mode .ensures,
+      ← c .before .before .before .before .mode-of .ensures,
+    )
 
 in-mode-requires : tie.Need-in-mode-requires
 in-mode-requires c κs = search needs
 
 returns-2 : tie.Need-returns-2
 unfolding setWr4
-returns-2 c = simp (tests, c .before .if1 .left, ← c .before .before .before .before .same-mode .ensures, ← c .before .before .before .before .before .mode .ensures, ← c .before .before .before .before .before .before .mode-of .ensures) (c .in-mode .ensures)
+returns-2 c =
+    simp (
+      tests,
+      c .before .if1 .left,
+      c .in-mode .ensures,
+      c .before .before .with-wr4 .ensures,
+      ← c .before .before .before .same-mode .ensures,
+      ← c .before .before .before .before .mode .ensures,
+      ← c .before .before .before .before .before .mode-of .ensures,
+    )
 
 pub set-wr4-spec : {M : Type 1} → statement M
 set-wr4-spec =
     tie.close
-    (tie.spec mode-of-requires mode-requires same-mode-requires returns in-mode-requires returns-2)
+    (tie.spec
+    mode-of-requires
+    mode-requires
+    same-mode-requires
+    with-wr4-requires
+    returns
+    in-mode-requires
+    returns-2)

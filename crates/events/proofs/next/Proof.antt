@@ -23,16 +23,13 @@ enum-known-f-2 c = search needs
 last-line-requires : tie.Need-last-line-requires
 last-line-requires c κs = search needs
 
-telling-requires : tie.Need-telling-requires
-telling-requires c κs = search needs
-
 returns : tie.Need-returns
 unfolding next
 returns c = simp (tests, c .before .before .before .f .given .1, ← c .before .step .ensures, ← c .before .before .before .before .before .found-at .ensures) (c .played .ensures)
 
 returns-2 : tie.Need-returns-2
 unfolding next
-returns-2 c = simp (tests, c .before .before .before .f2 .given .1, ← c .before .last-line .ensures, ← c .before .before .before .before .before .found-at .ensures) (c .telling .ensures)
+returns-2 c = simp (tests, c .before .before .f2 .given .1, c .last-line .ensures, ← c .before .before .before .before .found-at .ensures)
 
 pub next-spec : {M : Type 1} → statement M
 next-spec =
@@ -44,6 +41,5 @@ next-spec =
     played-requires
     enum-known-f-2
     last-line-requires
-    telling-requires
     returns
     returns-2)

@@ -8,12 +8,9 @@ use Rattle.events.proofs.played.Tie as tie
 told-line-requires : tie.Need-told-line-requires
 told-line-requires c κs = search needs
 
-telling-requires : tie.Need-telling-requires
-telling-requires c κs = search needs
-
 returns : tie.Need-returns
 unfolding played
-returns c = simp (tests, ← c .before .told-line .ensures) (c .telling .ensures)
+returns c = simp (tests, c .told-line .ensures)
 
 pub played-spec : {M : Type 1} → statement M
-played-spec = tie.close (tie.spec told-line-requires telling-requires returns)
+played-spec = tie.close (tie.spec told-line-requires returns)

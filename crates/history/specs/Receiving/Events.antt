@@ -13,15 +13,12 @@ use Rattle.queue.specs.declared.Queue.{Queue}
 use Rattle.queue.specs.Queue.{room, pushed, taken, oldest, waits}
 use Rattle.queue.specs.Holding.{Plain, Holds, entryIf}
 use Rattle.queue.specs.Laws.{push-holds}
-use Rattle.sdlc.specs.declared.Listened.{Listened}
 use Rattle.sdlc.specs.Hearing.{hearSdlc}
 use Rattle.receiver.specs.declared.Heard.{Heard}
 use Rattle.receiver.specs.declared.Receiver.{Receiver}
+use Rattle.receiver.specs.declared.Receiving.{Receiving}
 use Rattle.receiver.specs.Receiver.{listenerOf}
 use Rattle.receiver.specs.Laws.Tick.{hear-sdlc}
-use Rattle.settings.specs.declared.Registers.{Registers}
-use Rattle.settings.specs.declared.Lines.{Lines}
-use Rattle.settings.specs.Settings.{receivingOf}
 use Rattle.channel.specs.declared.Answer.{Answer}
 use Rattle.channel.specs.declared.Answered.{Answered}
 use Rattle.channel.specs.declared.Channel.{Channel}
@@ -33,30 +30,26 @@ use Rattle.stories.specs.Story.{Which, chan, happens}
 use Rattle.stories.specs.Received.{ToReceiver, Hears, Reads, Else, toReceiver}
 use Rattle.stories.specs.Received.{isRead, taking, valueIf, valuesOf, tookOf, bytesOf}
 use Rattle.history.specs.Quiet.{partIn}
-use Rattle.history.specs.Receiving.Side.{Heeded, heeded, Side, side, part, sideIn, sideOf}
+use Rattle.history.specs.Receiving.Side.{Heeded, heeded, Side, side, receivingIn, part}
+use Rattle.history.specs.Receiving.Side.{sideIn, sideOf}
 use Rattle.history.specs.Receiving.Roles.{by-role}
 use Rattle.history.specs.Receiving.Quiet.{heardPart}
 
 -- what a tick hands over is queued
-abbrev pub queuedBy : Queue → Listened → Queue
-queuedBy q h = if h .some then pushed q (h .entry) else q
+abbrev pub queuedIf : Bool → Queue → Entry → Queue
+queuedIf some q x = if some then pushed q x else q
+
+-- and finds room
+abbrev pub roomIf : Bool → Queue → Bool
+roomIf some q = not some || ltb (q .count) room
 
 abbrev pub heardSide : Bool → Side → Side
 heardSide b x =
     let h = hearSdlc (x .settings .addressing) (x .listener) b in
-    side (h .listener) (queuedBy (x .queue) h) (x .settings)
+    side (h .listener) (queuedIf (h .some) (x .queue) (h .entry)) (x .settings)
 
 abbrev pub readSide : Side → Side
 readSide x = side (x .listener) (taken (x .queue)) (x .settings)
-
--- what an event's role says of the side behind it
-abbrev pub FollowsIn : Channel → Channel → ToReceiver → Type 0
-FollowsIn c d (Hears b) = sideIn d ≡ heardSide b (sideIn c)
-FollowsIn c d Reads = sideIn d ≡ readSide (sideIn c)
-FollowsIn c d Else = Unit
-
-abbrev pub Follows : Which → Chip → Chip → ToReceiver → Type 0
-Follows w c d r = FollowsIn (chan w c) (chan w d) r
 
 -- SDLC, and on
 pub record Hearing (g : Heeded) : Type 0 where
@@ -67,7 +60,7 @@ heard-in : (c : Channel) (b : Bool) → Hearing (sideIn c .settings)
     → sideIn (receiveTick c b) ≡ heardSide b (sideIn c)
 unfolding receiveTick settled
 heard-in c b h =
-    let g = receivingOf (c .registers) (c .lines) in
+    let g = receivingIn c in
     ap (λ (x : Heard). side (listenerOf (x .receiver)) (queued (c .queue) x) (heeded g))
     (hear-sdlc g (c .receiver) b (h .mode) (h .on))
 
@@ -79,27 +72,45 @@ taken-none q e =
 
 -- the queue takes what a tick hands over, if there is room for it
 pub queue-takes : {p o : Bool} {q : Queue} {es : List Entry} (some : Bool) (x : Entry)
-    → Holds p o q es → not some || ltb (q .count) room ≡ true → Plain x
-    → Holds p o (if some then pushed q x else q) (es ++ entryIf some x)
+    → Holds p o q es → roomIf some q ≡ true → Plain x
+    → Holds p o (queuedIf some q x) (es ++ entryIf some x)
 queue-takes true x k r e = push-holds k r e
 queue-takes {es = es} false x k r e = rw (append-nil es) k
 
 -- a read, for every part that receiver and queue say
-pub read-in : {X : Type 0} (g : Registers → Lines → Receiver → Queue → X) (c : Channel)
+pub read-in : {X : Type 0} (g : Receiving → Receiver → Queue → X) (c : Channel)
     → partIn (heardPart g) (dataRead c .channel)
-    ≡ g (c .registers) (c .lines) (c .receiver) (taken (c .queue))
+    ≡ g (receivingIn c) (c .receiver) (taken (c .queue))
 unfolding dataRead
 read-in g c =
     by-test (λ (d : Answered). partIn (heardPart g) (d .channel)
-    ≡ g (c .registers) (c .lines) (c .receiver) (taken (c .queue)))
+    ≡ g (receivingIn c) (c .receiver) (taken (c .queue)))
     (waits (c .queue)) (λ e. refl)
-    (λ e. ap (g (c .registers) (c .lines) (c .receiver)) (sym (taken-none (c .queue) e)))
+    (λ e. ap (g (receivingIn c) (c .receiver)) (sym (taken-none (c .queue) e)))
+
+-- what an event's role says of such a part behind it, `heard` being what a tick makes of it
+abbrev pub FollowsIn : {X : Type 0} → (Receiving → Receiver → Queue → X) → (Bool → X) → Channel
+    → Channel → ToReceiver → Type 0
+FollowsIn g heard c d (Hears b) = partIn (heardPart g) d ≡ heard b
+FollowsIn g heard c d Reads =
+    partIn (heardPart g) d ≡ g (receivingIn c) (c .receiver) (taken (c .queue))
+FollowsIn g heard c d Else = Unit
+
+pub follows-in : {X : Type 0} (g : Receiving → Receiver → Queue → X) (heard : Bool → X) (w : Which)
+    (c : Chip) → ((b : Bool) → partIn (heardPart g) (receiveTick (chan w c) b) ≡ heard b)
+    → (e : Event)
+    → FollowsIn g heard (chan w c) (chan w (happens c e .chip)) (toReceiver w e)
+follows-in g heard w c h e =
+    by-role w c (λ x r. FollowsIn g heard (chan w c) (x .channel) r) (λ x. tt) h
+    (read-in g (chan w c)) e
+
+abbrev pub Follows : Which → Chip → Chip → ToReceiver → Type 0
+Follows w c d r = FollowsIn part (λ b. heardSide b (sideOf w c)) (chan w c) (chan w d) r
 
 pub follows : (w : Which) (c : Chip) (e : Event) → Hearing (sideOf w c .settings)
     → Follows w c (happens c e .chip) (toReceiver w e)
 follows w c e h =
-    by-role w c (λ x r. FollowsIn (chan w c) (x .channel) r) (λ x. tt)
-    (λ b. heard-in (chan w c) b h) (read-in part (chan w c)) e
+    follows-in part (λ b. heardSide b (sideOf w c)) w c (λ b. heard-in (chan w c) b h) e
 
 -- what the reads answered are the bytes of the entries that they took
 

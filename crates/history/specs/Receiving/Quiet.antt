@@ -1,6 +1,6 @@
 -- Which events leave the receiving side of a channel as it was: a test that a reader can run, and
--- the proof that it is enough. WR0, and what the sender's own calls leave, for every part that
--- receiver and queue say. Assumes nothing.
+-- the proof that it is enough, for every part that receiver, queue and what the receiver is told
+-- say. Assumes nothing.
 use mathlib.Core.Path.{_≡_, refl, ap, _∙_}
 use mathlib.Core.Bool.{Bool, true, false, not, _&&_, _||_, Bool·beq}
 use Prim.Native.Nat.{ℕ, _/_}
@@ -8,25 +8,26 @@ use lib.Dec.{eqb}
 use Rattle.common.specs.Tools.{by-test, if-elim, void, both-left, both-right}
 use Rattle.line.specs.Bits.{odd}
 use Rattle.queue.specs.declared.Queue.{Queue}
+use Rattle.bytesync.specs.Hearing.{matching}
 use Rattle.receiver.specs.declared.Receiver.{Receiver}
-use Rattle.receiver.specs.Receiver.{listenerOf}
+use Rattle.receiver.specs.declared.Receiving.{Receiving}
 use Rattle.settings.specs.declared.Registers.{Registers}
 use Rattle.settings.specs.declared.Lines.{Lines}
 use Rattle.settings.specs.Settings.{store5, store7, commandIn, presetIn, autoEnables}
-use Rattle.settings.specs.Settings.{modeIn, formatOf, receivingOf}
+use Rattle.settings.specs.Settings.{modeIn, syncsIn, polynomialIn, formatOf, receivingOf}
 use Rattle.channel.specs.declared.Side as channel
 use Rattle.channel.specs.declared.Side.the-variants as channels
 use Rattle.channel.specs.declared.Channel.{Channel}
 use Rattle.channel.specs.Channel.{withRegisters, settled}
 use Rattle.channel.specs.Control.{commanded, preset, commandStep, presetStep, writeWr0, setWr1}
-use Rattle.channel.specs.Control.{setWr2}
+use Rattle.channel.specs.Control.{setWr2, setWr3}
 use Rattle.channel.specs.Events.{dataWritten, transmitTick, linesSet}
 use Rattle.chip.specs.declared.Chip.{Chip}
 use Rattle.chip.specs.Event.{Event}
 use Rattle.stories.specs.Story.{Which, happens}
 use Rattle.history.specs.Tools.{refused-test, still-on}
 use Rattle.history.specs.Quiet.{Test, quietBy, Part, KeptIn, Keeps, quiet-kept}
-use Rattle.history.specs.Receiving.Side.{side, part, sideOf}
+use Rattle.history.specs.Receiving.Side.{part, sideOf}
 
 -- The test
 
@@ -38,16 +39,16 @@ quietWr0 v = not (eqb (commandIn v) 3) && (not (eqb (commandIn v) 6) && not (eqb
 abbrev pub quietDcd : Channel → Bool → Bool
 quietDcd c dcd = not (autoEnables (c .registers)) || Bool·beq dcd (c .lines .dcd)
 
--- all but receive ticks and data reads, and what writes its receiver or queue or sets it anew: of
--- the registers WR3, WR4 and WR6
-abbrev pub test : Test
-test = record {
+-- all but receive ticks and data reads, and what writes its receiver or queue or sets it anew: WR4
+-- and WR6 do; of WR3, WR5 and WR7 each mode says what leaves its side alone
+abbrev pub heardTest : (wr3 wr5 wr7 : Registers → ℕ → Bool) → Test
+heardTest wr3 wr5 wr7 = record {
   wr0 = quietWr0;
-  wr3 = λ r v. false;
+  wr3 = wr3;
   wr4 = λ r v. false;
-  wr5 = λ r v. true;
+  wr5 = wr5;
   wr6 = λ r v. false;
-  wr7 = λ r v. true;
+  wr7 = wr7;
   data-writes = true;
   data-reads = false;
   transmits = true;
@@ -55,15 +56,19 @@ test = record {
   lines = λ c dcd cts. quietDcd c dcd;
 }
 
+-- SDLC reads WR3, and neither WR5 nor WR7
+abbrev pub test : Test
+test = heardTest (λ r v. false) (λ r v. true) (λ r v. true)
+
 abbrev pub quiet : Which → Chip → Event → Bool
 quiet w c e = quietBy test w c e
 
--- It is enough: every part that receiver and queue say
+-- It is enough, for every part that receiver, queue and what the receiver is told say
 
-abbrev pub heardPart : {X : Type 0} → (Registers → Lines → Receiver → Queue → X) → Part X
-heardPart g r l s v q = g r l v q
+abbrev pub heardPart : {X : Type 0} → (Receiving → Receiver → Queue → X) → Part X
+heardPart g r l s v q = g (receivingOf r l) v q
 
-commanded-kept : {X : Type 0} (g : Registers → Lines → Receiver → Queue → X) (c : Channel) (k : ℕ)
+commanded-kept : {X : Type 0} (g : Receiving → Receiver → Queue → X) (c : Channel) (k : ℕ)
     → not (eqb k 6) ≡ true → KeptIn (heardPart g) c (commanded c k)
 unfolding commanded
 commanded-kept g c k n =
@@ -71,7 +76,7 @@ commanded-kept g c k n =
     if-elim P (eqb k 1) refl (if-elim P (eqb k 2) refl (if-elim P (eqb k 4) refl
     (if-elim P (eqb k 5) refl (by-test P (eqb k 6) (λ t. refused-test n t) (λ t. refl)))))
 
-preset-kept : {X : Type 0} (g : Registers → Lines → Receiver → Queue → X) (c : Channel) (k : ℕ)
+preset-kept : {X : Type 0} (g : Receiving → Receiver → Queue → X) (c : Channel) (k : ℕ)
     → not (eqb k 1) ≡ true → KeptIn (heardPart g) c (preset c k)
 unfolding preset
 preset-kept g c k n =
@@ -79,7 +84,7 @@ preset-kept g c k n =
     by-test P (eqb k 1) (λ t. refused-test n t)
     (λ t. if-elim P (eqb k 2) refl (if-elim P (eqb k 3) refl refl))
 
-pub wr0-kept : {X : Type 0} (g : Registers → Lines → Receiver → Queue → X) (c : Channel) (v : ℕ)
+wr0-kept : {X : Type 0} (g : Receiving → Receiver → Queue → X) (c : Channel) (v : ℕ)
     → quietWr0 v ≡ true → KeptIn (heardPart g) c (writeWr0 c v)
 unfolding writeWr0 presetStep commandStep settled
 wr0-kept g c v q =
@@ -92,64 +97,87 @@ wr0-kept g c v q =
     (λ t. preset-kept g (commandStep c v) (presetIn v) (both-right b d r)
     ∙ commanded-kept g c (commandIn v) (both-left b d r))
 
-pub write-kept : {X : Type 0} (g : Registers → Lines → Receiver → Queue → X) (c : Channel) (v : ℕ)
+wr1-kept : {X : Type 0} (g : Receiving → Receiver → Queue → X) (c : Channel) (v : ℕ)
+    → KeptIn (heardPart g) c (setWr1 c v)
+unfolding receivingOf
+wr1-kept g c v = refl
+
+wr2-kept : {X : Type 0} (g : Receiving → Receiver → Queue → X) (c : Channel) (w : channel.Side)
+    (v : ℕ) → KeptIn (heardPart g) c (setWr2 c w v)
+unfolding receivingOf
+wr2-kept g c channels.A v = refl
+wr2-kept g c channels.B v = refl
+
+write-kept : {X : Type 0} (g : Receiving → Receiver → Queue → X) (c : Channel) (v : ℕ)
     → KeptIn (heardPart g) c (dataWritten c v)
 write-kept g c v = refl
 
-pub transmit-kept : {X : Type 0} (g : Registers → Lines → Receiver → Queue → X) (c : Channel)
+transmit-kept : {X : Type 0} (g : Receiving → Receiver → Queue → X) (c : Channel)
     → KeptIn (heardPart g) c (transmitTick c .channel)
 unfolding transmitTick settled
 transmit-kept g c = refl
 
--- and this side
-
-abbrev KeptSide : Channel → Channel → Type 0
-KeptSide c x = KeptIn (heardPart part) c x
-
-wr1-kept : (c : Channel) (v : ℕ) → KeptSide c (setWr1 c v)
+-- the receiver is told the same
+dcd-kept : (r : Registers) (l m : Lines)
+    → not (autoEnables r) || Bool·beq (m .dcd) (l .dcd) ≡ true → receivingOf r m ≡ receivingOf r l
 unfolding receivingOf
-wr1-kept c v = refl
-
-wr2-kept : (c : Channel) (w : channel.Side) (v : ℕ) → KeptSide c (setWr2 c w v)
-unfolding receivingOf
-wr2-kept c channels.A v = refl
-wr2-kept c channels.B v = refl
-
-wr5-kept : (c : Channel) (v : ℕ) → KeptSide c (withRegisters c (store5 (c .registers) v))
-unfolding receivingOf
-wr5-kept c v = refl
-
-wr7-kept : (c : Channel) (v : ℕ) → KeptSide c (withRegisters c (store7 (c .registers) v))
-unfolding receivingOf
-wr7-kept c v = refl
-
-lines-kept : (c : Channel) (d t : Bool) → quietDcd c d ≡ true → KeptSide c (linesSet c d t)
-unfolding linesSet settled receivingOf
-lines-kept c d t q =
-    let r = c .registers in
-    ap (λ (b : Bool). side (listenerOf (c .receiver)) (c .queue) (record {
+dcd-kept r l m q =
+    ap (λ (b : Bool). record {
       mode = modeIn r;
       on = odd (r .wr3) && b;
       addressing = record { search = odd (r .wr3 / 4); address = r .wr6 };
       format = formatOf r (r .wr3 / 64);
-    })) (still-on (autoEnables r) d (c .lines .dcd) q)
+      matching = matching (syncsIn r) (odd (r .wr3 / 2)) (odd (r .wr3 / 8)) (polynomialIn r);
+    }) (still-on (autoEnables r) (m .dcd) (l .dcd) q)
+
+lines-kept : {X : Type 0} (g : Receiving → Receiver → Queue → X) (c : Channel) (d t : Bool)
+    → quietDcd c d ≡ true → KeptIn (heardPart g) c (linesSet c d t)
+unfolding linesSet settled
+lines-kept g c d t q =
+    ap (λ (x : Receiving). g x (c .receiver) (c .queue))
+    (dcd-kept (c .registers) (c .lines) (linesSet c d t .lines) q)
+
+-- what a mode shows of its own: its three registers
+pub heard-keeps : {X : Type 0} (g : Receiving → Receiver → Queue → X)
+    (wr3 wr5 wr7 : Registers → ℕ → Bool)
+    → ((c : Channel) (v : ℕ) → wr3 (c .registers) v ≡ true → KeptIn (heardPart g) c (setWr3 c v))
+    → ((c : Channel) (v : ℕ) → wr5 (c .registers) v ≡ true
+    → KeptIn (heardPart g) c (withRegisters c (store5 (c .registers) v)))
+    → ((c : Channel) (v : ℕ) → wr7 (c .registers) v ≡ true
+    → KeptIn (heardPart g) c (withRegisters c (store7 (c .registers) v)))
+    → Keeps (heardPart g) (heardTest wr3 wr5 wr7)
+heard-keeps g wr3 wr5 wr7 three five seven = record {
+  wr0 = wr0-kept g;
+  wr1 = wr1-kept g;
+  wr2 = wr2-kept g;
+  wr3 = three;
+  wr4 = λ c v n q. void q;
+  wr5 = five;
+  wr6 = λ c v q. void q;
+  wr7 = seven;
+  data-writes = λ c v q. write-kept g c v;
+  data-reads = λ c q. void q;
+  transmits = λ c q. transmit-kept g c;
+  receives = λ c b q. void q;
+  lines = lines-kept g;
+}
+
+-- and for SDLC's side
+
+wr5-kept : (c : Channel) (v : ℕ)
+    → KeptIn (heardPart part) c (withRegisters c (store5 (c .registers) v))
+unfolding receivingOf
+wr5-kept c v = refl
+
+wr7-kept : (c : Channel) (v : ℕ)
+    → KeptIn (heardPart part) c (withRegisters c (store7 (c .registers) v))
+unfolding receivingOf
+wr7-kept c v = refl
 
 keeps : Keeps (heardPart part) test
-keeps = record {
-  wr0 = wr0-kept part;
-  wr1 = wr1-kept;
-  wr2 = wr2-kept;
-  wr3 = λ c v q. void q;
-  wr4 = λ c v n q. void q;
-  wr5 = λ c v q. wr5-kept c v;
-  wr6 = λ c v q. void q;
-  wr7 = λ c v q. wr7-kept c v;
-  data-writes = λ c v q. write-kept part c v;
-  data-reads = λ c q. void q;
-  transmits = λ c q. transmit-kept part c;
-  receives = λ c b q. void q;
-  lines = lines-kept;
-}
+keeps =
+    heard-keeps part (λ r v. false) (λ r v. true) (λ r v. true) (λ c v q. void q)
+    (λ c v q. wr5-kept c v) (λ c v q. wr7-kept c v)
 
 pub quiet-keeps : (w : Which) (c : Chip) (e : Event) → quiet w c e ≡ true
     → sideOf w (happens c e .chip) ≡ sideOf w c

@@ -10,8 +10,6 @@ use Rattle.sdlc.specs.declared.Listener.{Listener}
 use Rattle.receiver.specs.declared.Receiver.{Receiver}
 use Rattle.receiver.specs.declared.Receiving.{Receiving}
 use Rattle.receiver.specs.Receiver.{listenerOf}
-use Rattle.settings.specs.declared.Registers.{Registers}
-use Rattle.settings.specs.declared.Lines.{Lines}
 use Rattle.settings.specs.Settings.{receivingOf}
 use Rattle.channel.specs.declared.Channel.{Channel}
 use Rattle.chip.specs.declared.Chip.{Chip}
@@ -34,11 +32,14 @@ pub record Side : Type 0 where
 abbrev pub side : Listener → Queue → Heeded → Side
 side s q g = record { listener = s; queue = q; settings = g }
 
-abbrev pub part : Registers → Lines → Receiver → Queue → Side
-part r l v q = side (listenerOf v) q (heeded (receivingOf r l))
+abbrev pub receivingIn : Channel → Receiving
+receivingIn c = receivingOf (c .registers) (c .lines)
+
+abbrev pub part : Receiving → Receiver → Queue → Side
+part g v q = side (listenerOf v) q (heeded g)
 
 abbrev pub sideIn : Channel → Side
-sideIn c = part (c .registers) (c .lines) (c .receiver) (c .queue)
+sideIn c = part (receivingIn c) (c .receiver) (c .queue)
 
 abbrev pub sideOf : Which → Chip → Side
 sideOf w c = sideIn (chan w c)

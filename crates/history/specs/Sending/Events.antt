@@ -9,8 +9,10 @@ use lib.ListN.{length, length-append}
 use Rattle.line.specs.Bits.{oneIf}
 use Rattle.sdlc.specs.declared.Framed.{Framed}
 use Rattle.sdlc.specs.Sending.{framer, tickSdlc}
+use Rattle.sender.specs.declared.Sender.{Sender}
+use Rattle.sender.specs.declared.Sending.{Sending}
 use Rattle.sender.specs.declared.Ticked.{Ticked}
-use Rattle.sender.specs.Sender.{framerOf, byFramer, withBreak, tick}
+use Rattle.sender.specs.Sender.{framerOf, byFramer, withBreak, tick, written}
 use Rattle.sender.specs.Laws.Tick.{tick-sdlc}
 use Rattle.channel.specs.Channel.{settled}
 use Rattle.channel.specs.Events.{transmitTick}
@@ -20,9 +22,10 @@ use Rattle.chip.specs.Event.{Event, DataWrite, Transmit}
 use Rattle.whole.specs.Come.{filledWith}
 use Rattle.stories.specs.Story.{Which, A, B, number, chan, happens, after}
 use Rattle.stories.specs.Sent.{ToSender, ticksBy, isTick, lineBit, lineOf, ticks}
-use Rattle.history.specs.Sending.Side.{Heeded, good, SenderSide, side, sendingIn, sideOf}
+use Rattle.history.specs.Quiet.{partIn}
+use Rattle.history.specs.Sending.Side.{Heeded, good, side, sendingIn, part, sideOf}
 use Rattle.history.specs.Sending.Side.{View, its-tick, its-write, other, view}
-use Rattle.whole.specs.Come as come
+use Rattle.history.specs.Sending.Quiet.{sentPart}
 use Rattle.whole.specs.Come as come
 
 -- what a tick makes of SDLC's part
@@ -37,19 +40,22 @@ tick-frames w c e =
     tick-sdlc g s (ap (λ (h : Heeded). h .mode) e)
     ∙ ap (λ (h : Heeded). withBreak (h .broken) (byFramer s (tickSdlc (h .framing) (framerOf s)))) e
 
-abbrev pub ticksTo : Which → Chip → Ticked → SenderSide
-ticksTo w c t = side (framerOf (t .sender)) (sideOf w c .heeds)
+-- a tick, for every part that the sender and what it is told say
+abbrev pub ticksTo : {X : Type 0} → (Sending → Sender → X) → Which → Chip → Ticked → X
+ticksTo f w c t = f (sendingIn (chan w c)) (t .sender)
 
-pub ticks-to : (w : Which) (c : Chip) → let g = sendingIn (chan w c) in
-    sideOf w (happens c (Transmit (number w)) .chip) ≡ ticksTo w c (tick g (chan w c .sender))
+pub ticks-to : {X : Type 0} (f : Sending → Sender → X) (w : Which) (c : Chip)
+    → partIn (sentPart f) (chan w (happens c (Transmit (number w)) .chip))
+    ≡ ticksTo f w c (tick (sendingIn (chan w c)) (chan w c .sender))
 unfolding transmitCall transmitTick settled
-ticks-to A c = refl
-ticks-to B c = refl
+ticks-to f A c = refl
+ticks-to f B c = refl
 
 pub tick-side : (w : Which) (c : Chip) → sideOf w c .heeds ≡ good
     → sideOf w (happens c (Transmit (number w)) .chip) ≡ side (tickedOf w c .framer) good
 tick-side w c e =
-    ticks-to w c ∙ ap (ticksTo w c) (tick-frames w c e) ∙ ap (side (tickedOf w c .framer)) e
+    ticks-to part w c ∙ ap (ticksTo part w c) (tick-frames w c e)
+    ∙ ap (side (tickedOf w c .framer)) e
 
 level-bit : (b : Bool) → onLevel (oneIf b) ≡ b
 level-bit true = refl
@@ -78,12 +84,18 @@ pub tick-more : (w : Which) (st : List Event)
 unfolding ticks
 tick-more w st = rw (tick-counts w) (omega arith)
 
+-- a write, likewise
+pub writes-to : {X : Type 0} (f : Sending → Sender → X) (w : Which) (c : Chip) (v : ℕ)
+    → partIn (sentPart f) (chan w (happens c (DataWrite (number w) v) .chip))
+    ≡ f (sendingIn (chan w c)) (written (chan w c .sender) v)
+unfolding dataWriteCall
+writes-to f A c v = refl
+writes-to f B c v = refl
+
 pub write-side : (w : Which) (c : Chip) (v : ℕ)
     → sideOf w (happens c (DataWrite (number w) v) .chip)
     ≡ side (filledWith (sideOf w c .sender) v) (sideOf w c .heeds)
-unfolding dataWriteCall
-write-side A c v = refl
-write-side B c v = refl
+write-side w c v = writes-to part w c v
 
 pub write-no-tick : (w : Which) (v : ℕ) → isTick w (DataWrite (number w) v) ≡ false
 write-no-tick A v = refl

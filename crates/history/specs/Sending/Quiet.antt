@@ -1,9 +1,8 @@
 -- Which events leave a channel's sender alone: a test that a reader can run on an event, and that
--- it is enough. WR0, and what the receiver's own calls leave, for every part that the sender says.
--- Assumes nothing.
+-- it is enough, for every part that the sender and what it is told say. Assumes nothing.
 use mathlib.Core.Path.{_≡_, refl, sym, ap, _∙_}
 use mathlib.Core.Bool.{Bool, true, false, not, _&&_, _||_, Bool·beq}
-use Prim.Native.Nat.{ℕ, _/_}
+use Prim.Native.Nat.{ℕ, _/_, _%_}
 use lib.Dec.{eqb}
 use Rattle.common.specs.Tools.{if-elim, by-test, void, both-left, both-right}
 use Rattle.common.specs.Mode.{synchronous, sameMode, mode-same}
@@ -11,13 +10,15 @@ use Rattle.common.specs.declared.Mode.{Mode}
 use Rattle.line.specs.Bits.{odd}
 use Rattle.sdlc.specs.Sending.{framing}
 use Rattle.queue.specs.Queue.{waits}
+use Rattle.bytesync.specs.Sending.{syncing}
 use Rattle.sender.specs.declared.Sender.{Sender}
+use Rattle.sender.specs.declared.Sending.{Sending}
 use Rattle.sender.specs.Sender.{framerOf}
 use Rattle.settings.specs.declared.Registers.{Registers}
 use Rattle.settings.specs.declared.Lines.{Lines}
 use Rattle.settings.specs.Settings.{store3, store4, store5, store6, store7, commandIn, presetIn}
 use Rattle.settings.specs.Settings.{entersHunt, autoEnables, modeOf, modeIn, notBuilt, sends}
-use Rattle.settings.specs.Settings.{sendingOf}
+use Rattle.settings.specs.Settings.{breaks, formatOf, stopsOf, polynomialIn, syncsIn, sendingOf}
 use Rattle.channel.specs.declared.Side.{Side}
 use Rattle.channel.specs.declared.Side.the-variants as channels
 use Rattle.channel.specs.declared.Channel.{Channel}
@@ -55,15 +56,16 @@ quietWr5 r v =
 abbrev pub quietCts : Channel → Bool → Bool
 quietCts c cts = not (autoEnables (c .registers)) || Bool·beq cts (c .lines .cts)
 
--- WR4: it is refused, or the mode stays
-abbrev pub test : Test
-test = record {
+-- all but transmit ticks and data writes, and what writes its sender or sets it anew; of WR4 to WR7
+-- each mode says what leaves its side alone
+abbrev pub sentTest : (wr4 wr5 wr6 wr7 : Registers → ℕ → Bool) → Test
+sentTest wr4 wr5 wr6 wr7 = record {
   wr0 = quietWr0;
   wr3 = quietAuto;
-  wr4 = λ r v. notBuilt v || sameMode (modeIn r) (modeOf v);
-  wr5 = quietWr5;
-  wr6 = λ r v. true;
-  wr7 = λ r v. true;
+  wr4 = wr4;
+  wr5 = wr5;
+  wr6 = wr6;
+  wr7 = wr7;
   data-writes = false;
   data-reads = true;
   transmits = false;
@@ -71,15 +73,23 @@ test = record {
   lines = λ c dcd cts. quietCts c cts;
 }
 
+-- WR4: it is refused, or the mode stays
+abbrev pub quietWr4 : Registers → ℕ → Bool
+quietWr4 r v = notBuilt v || sameMode (modeIn r) (modeOf v)
+
+-- SDLC sends by neither WR6 nor WR7
+abbrev pub test : Test
+test = sentTest quietWr4 quietWr5 (λ r v. true) (λ r v. true)
+
 abbrev pub quiet : Which → Chip → Event → Bool
 quiet w c e = quietBy test w c e
 
--- It is enough: every part that the sender says
+-- It is enough, for every part that the sender and what it is told say
 
-abbrev pub sentPart : {X : Type 0} → (Registers → Lines → Sender → X) → Part X
-sentPart g r l s v q = g r l s
+abbrev pub sentPart : {X : Type 0} → (Sending → Sender → X) → Part X
+sentPart g r l s v q = g (sendingOf r l) s
 
-commanded-kept : {X : Type 0} (g : Registers → Lines → Sender → X) (c : Channel) (k : ℕ)
+commanded-kept : {X : Type 0} (g : Sending → Sender → X) (c : Channel) (k : ℕ)
     → not (eqb k 1) ≡ true → KeptIn (sentPart g) c (commanded c k)
 unfolding commanded
 commanded-kept g c k n =
@@ -88,7 +98,7 @@ commanded-kept g c k n =
     (λ t. if-elim P (eqb k 2) refl (if-elim P (eqb k 4) refl
     (if-elim P (eqb k 5) refl (if-elim P (eqb k 6) refl refl))))
 
-preset-kept : {X : Type 0} (g : Registers → Lines → Sender → X) (c : Channel) (k : ℕ)
+preset-kept : {X : Type 0} (g : Sending → Sender → X) (c : Channel) (k : ℕ)
     → not (eqb k 2) ≡ true → not (eqb k 3) ≡ true → KeptIn (sentPart g) c (preset c k)
 unfolding preset
 preset-kept g c k n m =
@@ -96,7 +106,7 @@ preset-kept g c k n m =
     if-elim P (eqb k 1) refl (by-test P (eqb k 2) (λ t. refused-test n t)
     (λ t. by-test P (eqb k 3) (λ u. refused-test m u) (λ u. refl)))
 
-pub wr0-kept : {X : Type 0} (g : Registers → Lines → Sender → X) (c : Channel) (v : ℕ)
+wr0-kept : {X : Type 0} (g : Sending → Sender → X) (c : Channel) (v : ℕ)
     → quietWr0 v ≡ true → KeptIn (sentPart g) c (writeWr0 c v)
 unfolding writeWr0 commandStep presetStep settled
 wr0-kept g c v q =
@@ -110,18 +120,96 @@ wr0-kept g c v q =
     (λ t. preset-kept g (commandStep c v) (presetIn v) (both-left d e r) (both-right d e r)
     ∙ commanded-kept g c (commandIn v) (both-left a b l))
 
-pub read-kept : {X : Type 0} (g : Registers → Lines → Sender → X) (c : Channel)
+read-kept : {X : Type 0} (g : Sending → Sender → X) (c : Channel)
     → KeptIn (sentPart g) c (dataRead c .channel)
 unfolding dataRead
 read-kept g c =
     if-elim (λ (x : Answered). KeptIn (sentPart g) c (x .channel)) (waits (c .queue)) refl refl
 
-pub receive-kept : {X : Type 0} (g : Registers → Lines → Sender → X) (c : Channel) (b : Bool)
+receive-kept : {X : Type 0} (g : Sending → Sender → X) (c : Channel) (b : Bool)
     → KeptIn (sentPart g) c (receiveTick c b)
 unfolding receiveTick settled
 receive-kept g c b = refl
 
--- and this side
+wr1-kept : {X : Type 0} (g : Sending → Sender → X) (c : Channel) (v : ℕ)
+    → KeptIn (sentPart g) c (setWr1 c v)
+unfolding sendingOf
+wr1-kept g c v = refl
+
+wr2-kept : {X : Type 0} (g : Sending → Sender → X) (c : Channel) (s : Side) (v : ℕ)
+    → KeptIn (sentPart g) c (setWr2 c s v)
+unfolding sendingOf
+wr2-kept g c channels.A v = refl
+wr2-kept g c channels.B v = refl
+
+-- what the sender is told; `enabled` is what auto enables leave of CTS
+abbrev tells : Registers → Bool → Sending
+tells r enabled =
+    let on = odd (r .wr5 / 8) && enabled in
+    record {
+      mode = modeIn r;
+      broken = breaks (r .wr5);
+      framing = framing on (odd (r .wr5));
+      typing = record {
+        on = on;
+        format = formatOf r (r .wr5 / 32 % 4);
+        stops = stopsOf (r .wr4);
+      };
+      syncing = syncing on (odd (r .wr5)) (polynomialIn r) (syncsIn r);
+    }
+
+auto-kept : (r : Registers) (l : Lines) (v : ℕ) → quietAuto r v ≡ true
+    → sendingOf (store3 r v) l ≡ sendingOf r l
+unfolding sendingOf
+auto-kept r l v q =
+    ap (λ (t : Bool). tells r (not t || l .cts)) (same-is (odd (v / 32)) (autoEnables r) q)
+
+wr3-kept : {X : Type 0} (g : Sending → Sender → X) (c : Channel) (v : ℕ)
+    → quietAuto (c .registers) v ≡ true → KeptIn (sentPart g) c (setWr3 c v)
+wr3-kept g c v q =
+    let k = ap (λ (x : Sending). g x (c .sender)) (auto-kept (c .registers) (c .lines) v q) in
+    if-elim (KeptIn (sentPart g) c) (entersHunt v && synchronous (modeIn (c .registers))) k k
+
+cts-kept : (r : Registers) (l m : Lines)
+    → not (autoEnables r) || Bool·beq (m .cts) (l .cts) ≡ true → sendingOf r m ≡ sendingOf r l
+unfolding sendingOf
+cts-kept r l m q = ap (tells r) (still-on (autoEnables r) (m .cts) (l .cts) q)
+
+lines-kept : {X : Type 0} (g : Sending → Sender → X) (c : Channel) (dcd cts : Bool)
+    → quietCts c cts ≡ true → KeptIn (sentPart g) c (linesSet c dcd cts)
+unfolding linesSet settled
+lines-kept g c dcd cts q =
+    ap (λ (x : Sending). g x (c .sender))
+    (cts-kept (c .registers) (c .lines) (linesSet c dcd cts .lines) q)
+
+-- what a mode shows of its own: its four registers
+pub sent-keeps : {X : Type 0} (g : Sending → Sender → X) (wr4 wr5 wr6 wr7 : Registers → ℕ → Bool)
+    → ((c : Channel) (v : ℕ) → notBuilt v ≡ false → wr4 (c .registers) v ≡ true
+    → KeptIn (sentPart g) c (setWr4 c v))
+    → ((c : Channel) (v : ℕ) → wr5 (c .registers) v ≡ true
+    → KeptIn (sentPart g) c (withRegisters c (store5 (c .registers) v)))
+    → ((c : Channel) (v : ℕ) → wr6 (c .registers) v ≡ true
+    → KeptIn (sentPart g) c (withRegisters c (store6 (c .registers) v)))
+    → ((c : Channel) (v : ℕ) → wr7 (c .registers) v ≡ true
+    → KeptIn (sentPart g) c (withRegisters c (store7 (c .registers) v)))
+    → Keeps (sentPart g) (sentTest wr4 wr5 wr6 wr7)
+sent-keeps g wr4 wr5 wr6 wr7 four five six seven = record {
+  wr0 = wr0-kept g;
+  wr1 = wr1-kept g;
+  wr2 = wr2-kept g;
+  wr3 = wr3-kept g;
+  wr4 = four;
+  wr5 = five;
+  wr6 = six;
+  wr7 = seven;
+  data-writes = λ c v q. void q;
+  data-reads = λ c q. read-kept g c;
+  transmits = λ c q. void q;
+  receives = λ c b q. receive-kept g c b;
+  lines = lines-kept g;
+}
+
+-- and for SDLC's side
 
 abbrev KeptSide : Channel → Channel → Type 0
 KeptSide c x = KeptIn (sentPart part) c x
@@ -133,28 +221,6 @@ sameSender c h = side (framerOf (c .sender)) h
 abbrev heeds : Mode → Bool → Bool → Bool → Heeded
 heeds m broken on included = record { mode = m; broken = broken; framing = framing on included }
 
-wr1-kept : (c : Channel) (v : ℕ) → KeptSide c (setWr1 c v)
-unfolding sendingOf
-wr1-kept c v = refl
-
-wr2-kept : (c : Channel) (s : Side) (v : ℕ) → KeptSide c (setWr2 c s v)
-unfolding sendingOf
-wr2-kept c channels.A v = refl
-wr2-kept c channels.B v = refl
-
-wr3-keeps : (r : Registers) (l : Lines) (v : ℕ) → quietAuto r v ≡ true
-    → heeded (sendingOf (store3 r v) l) ≡ heeded (sendingOf r l)
-unfolding sendingOf
-wr3-keeps r l v q =
-    ap (λ (t : Bool). heeds (modeIn r) (odd (r .wr5 / 16)) (odd (r .wr5 / 8) && (not t || l .cts))
-    (odd (r .wr5)))
-    (same-is (odd (v / 32)) (autoEnables r) q)
-
-wr3-kept : (c : Channel) (v : ℕ) → quietAuto (c .registers) v ≡ true → KeptSide c (setWr3 c v)
-wr3-kept c v q =
-    let k = ap (sameSender c) (wr3-keeps (c .registers) (c .lines) v q) in
-    if-elim (KeptSide c) (entersHunt v && synchronous (modeIn (c .registers))) k k
-
 wr4-keeps : (r : Registers) (l : Lines) (v : ℕ) → modeOf v ≡ modeIn r
     → heeded (sendingOf (store4 r v) l) ≡ heeded (sendingOf r l)
 unfolding sendingOf
@@ -162,7 +228,7 @@ wr4-keeps r l v e =
     ap (λ (m : Mode). heeds m (odd (r .wr5 / 16)) (sends r l) (odd (r .wr5))) e
 
 wr4-kept : (c : Channel) (v : ℕ) → notBuilt v ≡ false
-    → notBuilt v || sameMode (modeIn (c .registers)) (modeOf v) ≡ true → KeptSide c (setWr4 c v)
+    → quietWr4 (c .registers) v ≡ true → KeptSide c (setWr4 c v)
 unfolding setWr4
 wr4-kept c v n q =
     let r = c .registers in
@@ -193,31 +259,10 @@ wr7-kept : (c : Channel) (v : ℕ) → KeptSide c (withRegisters c (store7 (c .r
 unfolding sendingOf
 wr7-kept c v = refl
 
-lines-kept : (c : Channel) (dcd cts : Bool) → quietCts c cts ≡ true
-    → KeptSide c (linesSet c dcd cts)
-unfolding linesSet settled sendingOf
-lines-kept c dcd cts q =
-    let r = c .registers in
-    ap (λ (t : Bool). sameSender c
-    (heeds (modeIn r) (odd (r .wr5 / 16)) (odd (r .wr5 / 8) && t) (odd (r .wr5))))
-    (still-on (autoEnables r) cts (c .lines .cts) q)
-
 keeps : Keeps (sentPart part) test
-keeps = record {
-  wr0 = wr0-kept part;
-  wr1 = wr1-kept;
-  wr2 = wr2-kept;
-  wr3 = wr3-kept;
-  wr4 = wr4-kept;
-  wr5 = wr5-kept;
-  wr6 = λ c v q. wr6-kept c v;
-  wr7 = λ c v q. wr7-kept c v;
-  data-writes = λ c v q. void q;
-  data-reads = λ c q. read-kept part c;
-  transmits = λ c q. void q;
-  receives = λ c b q. receive-kept part c b;
-  lines = lines-kept;
-}
+keeps =
+    sent-keeps part quietWr4 quietWr5 (λ r v. true) (λ r v. true) wr4-kept wr5-kept
+    (λ c v q. wr6-kept c v) (λ c v q. wr7-kept c v)
 
 -- a quiet event leaves the sender's side as it was
 pub quiet-keeps : (w : Which) (c : Chip) (e : Event) → quiet w c e ≡ true

@@ -14,8 +14,6 @@ use Rattle.sender.specs.declared.Sender.{Sender}
 use Rattle.sender.specs.declared.Sending.{Sending}
 use Rattle.sender.specs.Sender.{framerOf}
 use Rattle.sender.specs.Good.{Good}
-use Rattle.settings.specs.declared.Registers.{Registers}
-use Rattle.settings.specs.declared.Lines.{Lines}
 use Rattle.settings.specs.Settings.{sendingOf}
 use Rattle.channel.specs.declared.Channel.{Channel}
 use Rattle.chip.specs.declared.Chip.{Chip}
@@ -66,11 +64,11 @@ side s h = record { sender = s; heeds = h }
 abbrev pub sendingIn : Channel → Sending
 sendingIn c = sendingOf (c .registers) (c .lines)
 
-abbrev pub part : Registers → Lines → Sender → SenderSide
-part r l s = side (framerOf s) (heeded (sendingOf r l))
+abbrev pub part : Sending → Sender → SenderSide
+part g s = side (framerOf s) (heeded g)
 
 abbrev pub sideIn : Channel → SenderSide
-sideIn c = part (c .registers) (c .lines) (c .sender)
+sideIn c = part (sendingIn c) (c .sender)
 
 abbrev pub sideOf : Which → Chip → SenderSide
 sideOf w c = sideIn (chan w c)

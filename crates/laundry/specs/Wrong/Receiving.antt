@@ -113,7 +113,7 @@ huntsOverEarlierBits-refused t = other-number (t .searching) refl
 abbrev keepsTheHalfCharacter : Happens
 keepsTheHalfCharacter =
     butA (λ was e is.
-    if isWrite 0 4 was e && was .registers .chosen
+    if isWrite 0 4 was e && inBlocks (modeIn (was .registers))
     then withReception is (was .receiver .reception)
     else is)
 

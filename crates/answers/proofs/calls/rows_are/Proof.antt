@@ -20,20 +20,29 @@ sub-if1 c = search needs
 returns : tie.Need-returns Inv-loop μ-loop
 returns c = search needs
 
+mul-two-at : tie.Need-mul-two-at Inv-loop μ-loop
+mul-two-at c = search needs
+
 two-at-requires : tie.Need-two-at-requires Inv-loop μ-loop
 two-at-requires c κs = search needs
 
-mul-next : tie.Need-mul-next Inv-loop μ-loop
-mul-next c = search needs
+mul-k : tie.Need-mul-k Inv-loop μ-loop
+mul-k c = search needs
+
+add-k : tie.Need-add-k Inv-loop μ-loop
+add-k c = search needs
+
+cell-requires : tie.Need-cell-requires Inv-loop μ-loop
+cell-requires c κs = search needs
+
+two-at-requires-2 : tie.Need-two-at-requires-2 Inv-loop μ-loop
+two-at-requires-2 c κs = search needs
 
 returns-2 : tie.Need-returns-2 Inv-loop μ-loop
 returns-2 c = search needs
 
-row-is-requires : tie.Need-row-is-requires Inv-loop μ-loop
-row-is-requires c κs = search needs
-
-returns-3 : tie.Need-returns-3 Inv-loop μ-loop
-returns-3 c = search needs
+add-next : tie.Need-add-next Inv-loop μ-loop
+add-next c = search needs
 
 add-i : tie.Need-add-i Inv-loop μ-loop
 add-i c = search needs
@@ -44,11 +53,11 @@ loop-less c = search needs
 loop-again : tie.Need-loop-again Inv-loop μ-loop
 loop-again c = search needs
 
-at-requires : tie.Need-at-requires Inv-loop μ-loop
-at-requires c κs = search needs
+cell-requires-2 : tie.Need-cell-requires-2 Inv-loop μ-loop
+cell-requires-2 c κs = search needs
 
-returns-4 : tie.Need-returns-4 Inv-loop μ-loop
-returns-4 c = search needs
+returns-3 : tie.Need-returns-3 Inv-loop μ-loop
+returns-3 c = search needs
 
 pub rows-are-spec : {M : Type 1} → statement M
 rows-are-spec =
@@ -59,13 +68,16 @@ rows-are-spec =
     loop-holds
     sub-if1
     returns
+    mul-two-at
     two-at-requires
-    mul-next
+    mul-k
+    add-k
+    cell-requires
+    two-at-requires-2
     returns-2
-    row-is-requires
-    returns-3
+    add-next
     add-i
     loop-less
     loop-again
-    at-requires
-    returns-4)
+    cell-requires-2
+    returns-3)

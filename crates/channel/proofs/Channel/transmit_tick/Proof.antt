@@ -2,8 +2,6 @@
 use mathlib.Core.Path.{_≡_, sym, ap, ap₂, _∙_}
 use Prim.Native.Nat.{ℕ}
 use Rattle.channel.proofs.Branch.{tests}
-use Rattle.sender.specs.declared.Sending.{Sending}
-use Rattle.sender.specs.Sender.{tick}
 use Rattle.channel.specs.declared.Answer.the-variants.{Gave}
 use Rattle.channel.specs.declared.Channel.{Channel}
 use Rattle.channel.specs.Channel.{answered}
@@ -13,11 +11,8 @@ use borrow.Author.Needs.{needs}
 use Rattle.channel.proofs.Channel.transmit_tick.Statement.{statement}
 use Rattle.channel.proofs.Channel.transmit_tick.Tie as tie
 
-sending-requires : tie.Need-sending-requires
-sending-requires c κs = search needs
-
-tick-requires : tie.Need-tick-requires
-tick-requires c κs = search needs
+ticked-requires : tie.Need-ticked-requires
+ticked-requires c κs = search needs
 
 cell-requires : tie.Need-cell-requires
 cell-requires c κs = search needs
@@ -29,10 +24,10 @@ returns : tie.Need-returns
 unfolding transmitTick
 returns c =
     let x = c .before .before .before .before .before in
-    let s = x .before .before .args .self in
+    let s = x .before .args .self in
     ap₂ (λ (v : ℕ) (y : Channel). answered (Gave v) y) (c .before .cell .ensures) (c .after-tick .ensures)
-    ∙ still-ticked s (x .tick .result) (c .before .before .if1 .taken)
-    ∙ ap (transmitted s) (x .tick .ensures ∙ ap (λ (g : Sending). tick g (s .sender)) (x .before .sending .ensures))
+    ∙ still-ticked s (x .ticked .result) (c .before .before .if1 .taken)
+    ∙ ap (transmitted s) (x .ticked .ensures)
 
 after-tick-requires-2 : tie.Need-after-tick-requires-2
 after-tick-requires-2 c κs = search needs
@@ -45,14 +40,13 @@ cell-requires-2 c κs = search needs
 
 returns-2 : tie.Need-returns-2
 unfolding transmitTick
-returns-2 c = simp (tests, c .cell2 .ensures, ← c .before .settled .ensures, ← c .before .before .after-tick2 .ensures, ← c .before .before .before .before .before .before .tick .ensures, ← c .before .before .before .before .before .before .before .sending .ensures)
+returns-2 c = simp (tests, c .cell2 .ensures, ← c .before .settled .ensures, ← c .before .before .after-tick2 .ensures, ← c .before .before .before .before .before .before .ticked .ensures)
 
 pub transmit-tick-spec : {M : Type 1} → statement M
 transmit-tick-spec =
     tie.close
     (tie.spec
-    sending-requires
-    tick-requires
+    ticked-requires
     cell-requires
     after-tick-requires
     returns

@@ -6,14 +6,11 @@ use Rattle.chip.proofs.Chip.heard_a.Tie as tie
 receive-tick-requires : tie.Need-receive-tick-requires
 receive-tick-requires c κs = search needs
 
-done-requires : tie.Need-done-requires
-done-requires c κs = search needs
-
 in-a-requires : tie.Need-in-a-requires
 in-a-requires c κs = search needs
 
 returns : tie.Need-returns
-returns c = simp (c .in-a .ensures, c .before .done .ensures, ← c .before .before .receive-tick .ensures)
+returns c = simp (c .in-a .ensures, ← c .before .receive-tick .ensures)
 
 pub heard-a-spec : {M : Type 1} → statement M
-heard-a-spec = tie.close (tie.spec receive-tick-requires done-requires in-a-requires returns)
+heard-a-spec = tie.close (tie.spec receive-tick-requires in-a-requires returns)

@@ -6,14 +6,11 @@ use Rattle.chip.proofs.Chip.heard_b.Tie as tie
 receive-tick-requires : tie.Need-receive-tick-requires
 receive-tick-requires c κs = search needs
 
-done-requires : tie.Need-done-requires
-done-requires c κs = search needs
-
 in-b-requires : tie.Need-in-b-requires
 in-b-requires c κs = search needs
 
 returns : tie.Need-returns
-returns c = simp (c .in-b .ensures, c .before .done .ensures, ← c .before .before .receive-tick .ensures)
+returns c = simp (c .in-b .ensures, ← c .before .receive-tick .ensures)
 
 pub heard-b-spec : {M : Type 1} → statement M
-heard-b-spec = tie.close (tie.spec receive-tick-requires done-requires in-b-requires returns)
+heard-b-spec = tie.close (tie.spec receive-tick-requires in-b-requires returns)

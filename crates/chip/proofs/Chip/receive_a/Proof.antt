@@ -14,41 +14,35 @@ refused-requires c κs = search needs
 returns : tie.Need-returns
 returns c = simp (tests, c .before .if1 .taken) (c .refused .ensures)
 
-hears-within-requires : tie.Need-hears-within-requires
-hears-within-requires c κs = search needs
-
-hear-within-requires : tie.Need-hear-within-requires
-hear-within-requires c κs = search needs
-
-done-requires : tie.Need-done-requires
-done-requires c κs = search needs
-
-in-a-requires : tie.Need-in-a-requires
-in-a-requires c κs = search needs
-
-returns-2 : tie.Need-returns-2
-returns-2 c =
-    let a = c .before .before .before .before .before .before .args in
-    let e = receive-within (a .self .a) (eqb (a .bit) 1) (sym (c .before .before .before .before .hears-within .ensures) ∙ c .before .before .before .if2 .taken) in
-    simp (tests, c .in-a .ensures, c .before .done .ensures, c .before .before .hear-within .ensures, c .before .before .before .before .before .if1 .left, e)
-
 hears-block-requires : tie.Need-hears-block-requires
 hears-block-requires c κs = search needs
 
 hear-block-requires : tie.Need-hear-block-requires
 hear-block-requires c κs = search needs
 
-done-requires-2 : tie.Need-done-requires-2
-done-requires-2 c κs = search needs
+in-a-requires : tie.Need-in-a-requires
+in-a-requires c κs = search needs
+
+returns-2 : tie.Need-returns-2
+returns-2 c =
+    let a = c .before .before .before .before .before .args in
+    let e = block-hear (a .self .a) (eqb (a .bit) 1) (sym (c .before .before .before .hears-block .ensures) ∙ c .before .before .if2 .taken) in
+    simp (tests, c .in-a .ensures, c .before .hear-block .ensures, c .before .before .before .before .if1 .left, e)
+
+hears-within-requires : tie.Need-hears-within-requires
+hears-within-requires c κs = search needs
+
+hear-within-requires : tie.Need-hear-within-requires
+hear-within-requires c κs = search needs
 
 in-a-requires-2 : tie.Need-in-a-requires-2
 in-a-requires-2 c κs = search needs
 
 returns-3 : tie.Need-returns-3
 returns-3 c =
-    let a = c .before .before .before .before .before .before .before .before .args in
-    let e = block-hear (a .self .a) (eqb (a .bit) 1) (sym (c .before .before .before .before .hears-block .ensures) ∙ c .before .before .before .if3 .taken) in
-    simp (tests, c .in-a2 .ensures, c .before .done2 .ensures, c .before .before .hear-block .ensures, c .before .before .before .before .before .before .before .if1 .left, e)
+    let a = c .before .before .before .before .before .before .before .args in
+    let e = receive-within (a .self .a) (eqb (a .bit) 1) (sym (c .before .before .before .hears-within .ensures) ∙ c .before .before .if3 .taken) in
+    simp (tests, c .in-a2 .ensures, c .before .hear-within .ensures, c .before .before .before .before .before .before .if1 .left, e)
 
 heard-a-requires : tie.Need-heard-a-requires
 heard-a-requires c κs = search needs
@@ -59,5 +53,5 @@ returns-4 c = simp (tests, c .before .before .before .before .before .if1 .left)
 pub receive-a-spec : {M : Type 1} → statement M
 receive-a-spec =
     tie.close
-    (tie.spec refused-requires returns hears-within-requires hear-within-requires done-requires in-a-requires returns-2 hears-block-requires
-    hear-block-requires done-requires-2 in-a-requires-2 returns-3 heard-a-requires returns-4)
+    (tie.spec refused-requires returns hears-block-requires hear-block-requires in-a-requires returns-2 hears-within-requires
+    hear-within-requires in-a-requires-2 returns-3 heard-a-requires returns-4)

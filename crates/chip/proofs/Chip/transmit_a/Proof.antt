@@ -35,14 +35,17 @@ returns-2 c =
     let e = block-tick x (sym (c .before .before .before .within-block .ensures) ∙ c .before .before .if2 .taken) in
     simp (e, ← c .before .tick-block .ensures) (c .in-a2 .ensures)
 
-whole-a-requires : tie.Need-whole-a-requires
-whole-a-requires c κs = search needs
+ticked-requires : tie.Need-ticked-requires
+ticked-requires c κs = search needs
+
+in-a-requires-3 : tie.Need-in-a-requires-3
+in-a-requires-3 c κs = search needs
 
 returns-3 : tie.Need-returns-3
-returns-3 c = search needs
+returns-3 c = simp (← c .before .ticked .ensures) (c .in-a3 .ensures)
 
 pub transmit-a-spec : {M : Type 1} → statement M
 transmit-a-spec =
     tie.close
     (tie.spec within-requires tick-within-requires in-a-requires returns within-block-requires tick-block-requires in-a-requires-2 returns-2
-    whole-a-requires returns-3)
+    ticked-requires in-a-requires-3 returns-3)

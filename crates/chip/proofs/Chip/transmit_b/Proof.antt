@@ -35,14 +35,17 @@ returns-2 c =
     let e = block-tick x (sym (c .before .before .before .within-block .ensures) ∙ c .before .before .if2 .taken) in
     simp (e, ← c .before .tick-block .ensures) (c .in-b2 .ensures)
 
-whole-b-requires : tie.Need-whole-b-requires
-whole-b-requires c κs = search needs
+ticked-requires : tie.Need-ticked-requires
+ticked-requires c κs = search needs
+
+in-b-requires-3 : tie.Need-in-b-requires-3
+in-b-requires-3 c κs = search needs
 
 returns-3 : tie.Need-returns-3
-returns-3 c = search needs
+returns-3 c = simp (← c .before .ticked .ensures) (c .in-b3 .ensures)
 
 pub transmit-b-spec : {M : Type 1} → statement M
 transmit-b-spec =
     tie.close
     (tie.spec within-requires tick-within-requires in-b-requires returns within-block-requires tick-block-requires in-b-requires-2 returns-2
-    whole-b-requires returns-3)
+    ticked-requires in-b-requires-3 returns-3)

@@ -54,17 +54,8 @@ unticked-requires-3 c κs = search needs
 enum-told-5 : tie.Need-enum-told-5
 enum-told-5 c = search needs
 
-framer-requires : tie.Need-framer-requires
-framer-requires c κs = search needs
-
-tick-requires-2 : tie.Need-tick-requires-2
-tick-requires-2 c κs = search needs
-
-by-framer-requires : tie.Need-by-framer-requires
-by-framer-requires c κs = search needs
-
-with-break-requires-2 : tie.Need-with-break-requires-2
-with-break-requires-2 c κs = search needs
+tick-framed-requires : tie.Need-tick-framed-requires
+tick-framed-requires c κs = search needs
 
 returns-2 : tie.Need-returns-2
 unfolding tick
@@ -84,7 +75,7 @@ returns-5 c =
 
 returns-6 : tie.Need-returns-6
 unfolding tick
-returns-6 c = simp (tests, c .before .before .before .before .enum-told5 .given .1, ← c .before .by-framer .ensures, ← c .before .before .tick2 .ensures, ← c .before .before .before .framer .ensures) (c .with-break2 .ensures)
+returns-6 c = simp (tests, c .before .enum-told5 .given .1) (c .tick-framed .ensures)
 
 pub tick-spec : {M : Type 1} → statement M
 tick-spec =
@@ -104,10 +95,7 @@ tick-spec =
     enum-told-4
     unticked-requires-3
     enum-told-5
-    framer-requires
-    tick-requires-2
-    by-framer-requires
-    with-break-requires-2
+    tick-framed-requires
     returns-2
     returns-3
     returns-4

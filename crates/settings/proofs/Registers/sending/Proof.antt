@@ -11,6 +11,9 @@ sends-requires c κs = search needs
 mode-requires : tie.Need-mode-requires
 mode-requires c κs = search needs
 
+framing-requires : tie.Need-framing-requires
+framing-requires c κs = search needs
+
 format-requires : tie.Need-format-requires
 format-requires c κs = search needs
 
@@ -25,7 +28,7 @@ syncs-requires c κs = search needs
 
 returns : tie.Need-returns
 unfolding sendingOf
-returns c = simp (tests, c .syncs .ensures, ← c .before .polynomial .ensures, ← c .before .before .before .stops-of .ensures, ← c .before .before .before .before .format .ensures, ← c .before .before .before .before .before .before .before .before .mode .ensures, ← c .before .before .before .before .before .before .before .before .before .sends .ensures)
+returns c = simp (tests, c .syncs .ensures, c .before .polynomial .ensures, c .before .before .before .stops-of .ensures, c .before .before .before .before .format .ensures, c .before .before .before .before .before .before .framing .ensures, c .before .before .before .before .before .before .before .before .mode .ensures, c .before .before .before .before .before .before .before .before .before .sends .ensures)
 
 pub sending-spec : {M : Type 1} → statement M
 sending-spec =
@@ -33,6 +36,7 @@ sending-spec =
     (tie.spec
     sends-requires
     mode-requires
+    framing-requires
     format-requires
     stops-of-requires
     polynomial-requires

@@ -10,9 +10,11 @@ use denote.Ref.{now}
 use Rattle.notes.specs.declared.Scanned.the-variants.{Notes}
 use Rattle.notes.specs.NoteList.{restFrom, readList, scanned, walk}
 use Rattle.head.specs.NoteHead.{noteAt}
+use Rattle.line.specs.Frame.{zerosOf, ticksOf}
+use Rattle.line.specs.Line.{noteFits}
+use Rattle.chip.specs.declared.Chip.{Chip}
+use Rattle.drive.specs.Drive.{sentBy}
 use Rattle.notes.specs.Laws.Reading.{scanned-rest, scanned-size}
-use Rattle.fitting.specs.declared.Went.{Went}
-use Rattle.fitting.specs.Went.{went-as}
 use Rattle.report.specs.Report.{rowOf, hasRoom, reportOf, rowsIn}
 use Rattle.report.specs.Laws.Notes.{next-note, walk-next, walk-last}
 use Rattle.report.specs.Laws.Ticks.{fits-bounds, ticks-few}
@@ -26,14 +28,14 @@ use Rattle.station.proofs.list.send_notes.Statement.{statement}
 use Rattle.station.proofs.list.send_notes.Tie as tie
 
 abbrev Inv-loop : tie.InvT-loop
-Inv-loop list rows₀ n between told d₀ i₀ notes₀ sum₀ rows d i notes sum =
-    (walk (oneSent between told) (allSent between) (noneSent d₀ rows₀) (walked d notes sum rows) (restFrom list i)
-    ≡ walkedList (listedOf (reportOf between list)) (chipAfter between d₀ (readList list)) (rowsIn rows₀ (reportOf between list)))
+Inv-loop c₀ list rows₀ n between told i₀ notes₀ sum₀ c rows i notes sum =
+    (walk (oneSent between told) (allSent between) (noneSent c₀ rows₀) (walked c notes sum rows) (restFrom list i)
+    ≡ walkedList (listedOf (reportOf between list)) (chipAfter between c₀ (readList list)) (rowsIn rows₀ (reportOf between list)))
     × ((scanned (restFrom list i) ≡ Notes (n - notes)) × ((length rows ≡ length rows₀)
     × ((notes ≤ n) × ((3 * notes + 1 ≤ i) × ((i ≤ length list + 1) × (sum ≤ 19696 * notes))))))
 
 abbrev μ-loop : tie.MeasureT-loop
-μ-loop list rows₀ n between told d₀ i₀ notes₀ sum₀ rows d i notes sum = n - notes
+μ-loop c₀ list rows₀ n between told i₀ notes₀ sum₀ c rows i notes sum = n - notes
 
 loop-holds : tie.Need-loop-holds Inv-loop μ-loop
 loop-holds c =
@@ -51,35 +53,44 @@ loop-holds c =
 note-at-requires : tie.Need-note-at-requires Inv-loop μ-loop
 note-at-requires c κs = search needs
 
-send-next-requires : tie.Need-send-next-requires Inv-loop μ-loop
-send-next-requires c κs = search needs
+before-note-requires : tie.Need-before-note-requires Inv-loop μ-loop
+before-note-requires c κs = search needs
 
-add-m : tie.Need-add-m Inv-loop μ-loop
-add-m c =
+send-fitting-requires : tie.Need-send-fitting-requires Inv-loop μ-loop
+send-fitting-requires c κs =
     let s = c .before .before .before .before .before .before in
     let l = c .before .before .before .loop in
     let list = now (s .args .list) in
     let more = c .before .before .loop-test .taken in
+    let x = next-note list (l .i) (s .args .n - l .notes) (omega (arith, more)) (l .inv .1 .0) in
+    ap (λ (t : List ℕ). noteFits (length t)) (c .before .note-at .ensures) ∙ x .fits
+
+add-m : tie.Need-add-m Inv-loop μ-loop
+add-m c =
+    let s = c .before .before .before .before .before .before .before in
+    let l = c .before .before .before .before .loop in
+    let list = now (s .args .list) in
+    let more = c .before .before .before .loop-test .taken in
     let x = next-note list (l .i) (s .args .n - l .notes) (omega (arith, more)) (l .inv .1 .0) in
     let size = scanned-size list (s .args .n) (s .pre) in
     omega (arith, l .inv .1 .1 .1 .1 .0, l .inv .1 .1 .1 .1 .1 .0, size)
 
 mul-put-row : tie.Need-mul-put-row Inv-loop μ-loop
 mul-put-row c =
-    let s = c .before .before .before .before .before .before .before in
-    let l = c .before .before .before .before .loop in
+    let s = c .before .before .before .before .before .before .before .before in
+    let l = c .before .before .before .before .before .loop in
     let list = now (s .args .list) in
-    let more = c .before .before .before .loop-test .taken in
+    let more = c .before .before .before .before .loop-test .taken in
     let x = next-note list (l .i) (s .args .n - l .notes) (omega (arith, more)) (l .inv .1 .0) in
     let size = scanned-size list (s .args .n) (s .pre) in
     omega (arith, l .inv .1 .1 .1 .1 .0, l .inv .1 .1 .1 .1 .1 .0, size)
 
 put-row-requires : tie.Need-put-row-requires Inv-loop μ-loop
 put-row-requires c κs =
-    let s = c .before .before .before .before .before .before .before in
-    let l = c .before .before .before .before .loop in
+    let s = c .before .before .before .before .before .before .before .before in
+    let l = c .before .before .before .before .before .loop in
     let list = now (s .args .list) in
-    let more = c .before .before .before .loop-test .taken in
+    let more = c .before .before .before .before .loop-test .taken in
     let x = next-note list (l .i) (s .args .n - l .notes) (omega (arith, more)) (l .inv .1 .0) in
     let size = scanned-size list (s .args .n) (s .pre) in (
       room-for (s .args .n) (l .notes) (now (s .args .rows)) (l .rows) (omega (arith, more)) (l .inv .1 .1 .0),
@@ -88,44 +99,6 @@ put-row-requires c κs =
 
 add-sum : tie.Need-add-sum Inv-loop μ-loop
 add-sum c =
-    let s = c .before .before .before .before .before .before .before .before .before .before .before in
-    let l = c .before .before .before .before .before .before .before .before .loop in
-    let list = now (s .args .list) in
-    let more = c .before .before .before .before .before .before .before .loop-test .taken in
-    let x = next-note list (l .i) (s .args .n - l .notes) (omega (arith, more)) (l .inv .1 .0) in
-    let size = scanned-size list (s .args .n) (s .pre) in
-    let text = c .before .before .before .before .before .before .note-at .ensures in
-    let before = beforeNote (s .args .between) (l .notes) (l .d) in
-    let w = went-as before (noteAt list (l .i)) (x .fits) (c .before .before .before .before .before .send-next .ensures) text in
-    let ticks = ap (λ (y : Went). y .ticks) w in
-    let few = ticks-few (noteAt list (l .i)) (x .fits) in
-    omega (arith, ticks, few, l .inv .1 .1 .1 .1 .0, l .inv .1 .1 .1 .1 .1 .0, l .inv .1 .1 .1 .1 .1 .1, size)
-
-add-i : tie.Need-add-i Inv-loop μ-loop
-add-i c =
-    let s = c .before .before .before .before .before .before .before .before .before .before .before .before in
-    let l = c .before .before .before .before .before .before .before .before .before .loop in
-    let list = now (s .args .list) in
-    let more = c .before .before .before .before .before .before .before .before .loop-test .taken in
-    let x = next-note list (l .i) (s .args .n - l .notes) (omega (arith, more)) (l .inv .1 .0) in
-    let size = scanned-size list (s .args .n) (s .pre) in
-    omega (arith, l .inv .1 .1 .1 .1 .1 .0, size)
-
-add-i-2 : tie.Need-add-i-2 Inv-loop μ-loop
-add-i-2 c =
-    let s = c .before .before .before .before .before .before .before .before .before .before .before .before in
-    let l = c .before .before .before .before .before .before .before .before .before .loop in
-    let list = now (s .args .list) in
-    let more = c .before .before .before .before .before .before .before .before .loop-test .taken in
-    let x = next-note list (l .i) (s .args .n - l .notes) (omega (arith, more)) (l .inv .1 .0) in
-    let size = scanned-size list (s .args .n) (s .pre) in
-    omega (arith, x .inside, ap length (c .before .before .before .before .before .before .before .note-at .ensures), size)
-
-loop-less : tie.Need-loop-less Inv-loop μ-loop
-loop-less c = omega (arith, c .before .before .before .before .before .before .before .before .loop-test .taken)
-
-loop-again : tie.Need-loop-again Inv-loop μ-loop
-loop-again c =
     let s = c .before .before .before .before .before .before .before .before .before .before .before .before in
     let l = c .before .before .before .before .before .before .before .before .before .loop in
     let list = now (s .args .list) in
@@ -133,22 +106,61 @@ loop-again c =
     let x = next-note list (l .i) (s .args .n - l .notes) (omega (arith, more)) (l .inv .1 .0) in
     let size = scanned-size list (s .args .n) (s .pre) in
     let text = c .before .before .before .before .before .before .before .note-at .ensures in
-    let before = beforeNote (s .args .between) (l .notes) (l .d) in
-    let w = went-as before (noteAt list (l .i)) (x .fits) (c .before .before .before .before .before .before .send-next .ensures) text in
-    let ticks = ap (λ (y : Went). y .ticks) w in
+    let sent = c .before .before .before .before .before .send-fitting .ensures in
+    let ticks = sent .1 .0 ∙ ap ticksOf text in
     let few = ticks-few (noteAt list (l .i)) (x .fits) in
+    omega (arith, ticks, few, l .inv .1 .1 .1 .1 .0, l .inv .1 .1 .1 .1 .1 .0, l .inv .1 .1 .1 .1 .1 .1, size)
+
+add-i : tie.Need-add-i Inv-loop μ-loop
+add-i c =
+    let s = c .before .before .before .before .before .before .before .before .before .before .before .before .before in
+    let l = c .before .before .before .before .before .before .before .before .before .before .loop in
+    let list = now (s .args .list) in
+    let more = c .before .before .before .before .before .before .before .before .before .loop-test .taken in
+    let x = next-note list (l .i) (s .args .n - l .notes) (omega (arith, more)) (l .inv .1 .0) in
+    let size = scanned-size list (s .args .n) (s .pre) in
+    omega (arith, l .inv .1 .1 .1 .1 .1 .0, size)
+
+add-i-2 : tie.Need-add-i-2 Inv-loop μ-loop
+add-i-2 c =
+    let s = c .before .before .before .before .before .before .before .before .before .before .before .before .before in
+    let l = c .before .before .before .before .before .before .before .before .before .before .loop in
+    let list = now (s .args .list) in
+    let more = c .before .before .before .before .before .before .before .before .before .loop-test .taken in
+    let x = next-note list (l .i) (s .args .n - l .notes) (omega (arith, more)) (l .inv .1 .0) in
+    let size = scanned-size list (s .args .n) (s .pre) in
+    omega (arith, x .inside, ap length (c .before .before .before .before .before .before .before .before .note-at .ensures), size)
+
+loop-less : tie.Need-loop-less Inv-loop μ-loop
+loop-less c = omega (arith, c .before .before .before .before .before .before .before .before .before .loop-test .taken)
+
+loop-again : tie.Need-loop-again Inv-loop μ-loop
+loop-again c =
+    let s = c .before .before .before .before .before .before .before .before .before .before .before .before .before in
+    let l = c .before .before .before .before .before .before .before .before .before .before .loop in
+    let list = now (s .args .list) in
+    let more = c .before .before .before .before .before .before .before .before .before .loop-test .taken in
+    let x = next-note list (l .i) (s .args .n - l .notes) (omega (arith, more)) (l .inv .1 .0) in
+    let size = scanned-size list (s .args .n) (s .pre) in
+    let text = c .before .before .before .before .before .before .before .before .note-at .ensures in
+    let sent = c .before .before .before .before .before .before .send-fitting .ensures in
+    let ticks = sent .1 .0 ∙ ap ticksOf text in
+    let few = ticks-few (noteAt list (l .i)) (x .fits) in
+    let behind = sentBy (beforeNote (s .args .between) (l .notes) (l .c)) in
+    let chip =
+    sent .1 .1 ∙ ap (λ (y : Chip). sentBy y (now (c .before .before .before .before .before .before .before .before .note-at .result))) (c .before .before .before .before .before .before .before .before-note .ensures)
+    ∙ ap behind text in
     let rows = now (s .args .rows) in
     let told = hasRoom (s .args .n) rows in
     let i = l .i in
     let note = noteAt list i in
-    let was = walked (l .d) (l .notes) (l .sum) (l .rows) in
+    let was = walked (l .c) (l .notes) (l .sum) (l .rows) in
     let one =
-    one-sent (s .args .between) told was note (ap length text) (ap (λ (y : Went). y .zeros) w) ticks
-    (ap (λ (y : Went). y .chip) w) (c .before .before .before .before .put-row .ensures) in
+    one-sent (s .args .between) told was note (ap length text) (sent .0 ∙ ap zerosOf text) ticks chip (c .before .before .before .before .put-row .ensures) in
     let at = ap (λ (t : List ℕ). i + 2 + length t) text in
     let finish = walk (oneSent (s .args .between) told) (allSent (s .args .between)) (noneSent (s .args .c) rows) in
     let less : s .args .n - l .notes - 1 ≡ s .args .n - (l .notes + 1) = omega arith in (
-      ap (λ (y : Walked). finish y (restFrom list (i + 2 + length (now (c .before .before .before .before .before .before .before .note-at .result))))) one
+      ap (λ (y : Walked). finish y (restFrom list (i + 2 + length (now (c .before .before .before .before .before .before .before .before .note-at .result))))) one
           ∙ ap (λ (k : ℕ). finish (oneSent (s .args .between) told was note) (restFrom list k)) at
           ∙ sym (walk-next (oneSent (s .args .between) told) (allSent (s .args .between)) (noneSent (s .args .c) rows) was list i (s .args .n - l .notes - 1) x)
           ∙ l .inv .0,
@@ -181,11 +193,11 @@ returns c =
     let list = now (s .args .list) in
     let rows = now (s .args .rows) in
     let none : s .args .n - l .notes ≤ 0 = omega (arith, c .before .loop-test .left) in
-    let was = walked (l .d) (l .notes) (l .sum) (l .rows) in
+    let was = walked (l .c) (l .notes) (l .sum) (l .rows) in
     let e =
     sym (walk-last (oneSent (s .args .between) (hasRoom (s .args .n) rows)) (allSent (s .args .between)) (noneSent (s .args .c) rows) was list (l .i) (s .args .n - l .notes) none (l .inv .1 .0))
     ∙ l .inv .0 in (
-      ap (λ (k : ℕ). listSent (listed.All (l .notes) k) (l .d)) (c .in-all .ensures)
+      ap (λ (k : ℕ). listSent (listed.All (l .notes) k) (l .c)) (c .in-all .ensures)
           ∙ ap (λ (y : WalkedList). listSent (y .answer) (y .chip)) e,
       ap (λ (y : WalkedList). y .rows) e,
     )
@@ -198,7 +210,8 @@ send-notes-spec =
     μ-loop
     loop-holds
     note-at-requires
-    send-next-requires
+    before-note-requires
+    send-fitting-requires
     add-m
     mul-put-row
     put-row-requires

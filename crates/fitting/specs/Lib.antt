@@ -1,2 +1,0 @@
-pub mod Went
-pub mod Fed

@@ -1,0 +1,76 @@
+// A station makes channel A of a chip ready for a note: nothing of a frame is under way, and one can be sent. Any chip is accepted, whatever its
+// channel A was doing. Assumes nothing.
+use crate::calling::ON_EIGHT_BITS;
+use crate::calling::RESET;
+use crate::calling::SDLC_MODE;
+use crate::calling::SEND_ABORT;
+use crate::calling::control;
+use crate::calling::look;
+use chip::Chip;
+use common::in_sdlc;
+use sdlc::LineUnit;
+use sender::Sender;
+use sender::Sending;
+ghost use mathlib.Core.Path.{_≡_};
+ghost use Rattle.drive.specs.Drive.{canSend, betweenFrames, standsStill, setUp, freed, prepared};
+
+// The sender can send a frame.
+fn can_send(g: Sending) -> bool
+    ensures { λ r. ⌜ r ≡ canSend g ⌝ }
+{
+    let m = g.mode;
+    (in_sdlc(m) & g.framing.on) & (g.framing.included & !g.broken)
+}
+
+// Nothing of a frame is under way.
+fn between_frames(u: LineUnit) -> bool
+    ensures { λ r. ⌜ r ≡ betweenFrames u ⌝ }
+{
+    match u {
+        LineUnit::Mark => true,
+        LineUnit::Flag(n) => true,
+        LineUnit::Byte(n, v) => false,
+        LineUnit::Check(n, v) => false,
+        LineUnit::Abort(n) => true,
+    }
+}
+
+fn stands_still(s: Sender) -> bool
+    ensures { λ r. ⌜ r ≡ standsStill s ⌝ }
+{
+    let u = s.unit;
+    between_frames(u) & ((s.insertion.run == 0) & !s.insertion.owed)
+}
+
+// Channel Reset; then SDLC, eight bits, on, check included.
+fn set_up(c: Chip) -> Chip
+    ensures { λ r. ⌜ r ≡ setUp c ⌝ }
+{
+    let reset = control(c, RESET);
+    let in_mode = control(control(reset, 4), SDLC_MODE);
+    control(control(in_mode, 5), ON_EIGHT_BITS)
+}
+
+// A channel that can send stays as it is set, and a frame that is under way in it is aborted; any other is set up.
+fn freed(c: Chip, g: Sending, s: Sender) -> Chip
+    ensures { λ r. ⌜ r ≡ freed c g s ⌝ }
+{
+    let u = s.unit;
+    let able = can_send(g);
+    if able & stands_still(s) {
+        return c;
+    }
+    if able & !u.aborting() {
+        return control(c, SEND_ABORT);
+    }
+    set_up(c)
+}
+
+// Nothing is under way, the next control write goes to WR0, and a frame can be sent.
+pub(crate) fn prepared(c: Chip) -> Chip
+    ensures { λ r. ⌜ r ≡ prepared c ⌝ }
+{
+    let d = look(c);
+    let g = d.a.registers.sending(d.a.lines);
+    freed(d, g, d.a.sender)
+}
