@@ -28,8 +28,8 @@ pub struct Receiving {
     pub matching: Matching,
 }
 
-// What SDLC has heard of a frame, the asynchronous character, what Monosync and Bisync have heard of a block, and what all modes share: the
-// check, and RR0 D7.
+// The asynchronous character, what SDLC has heard of a frame, what Monosync and Bisync have heard of a block, and what all modes share: the
+// check, and RR0 D7. In the order that ticks like (channel's Channel).
 pub struct Receiver {
     pub assembly: Assembly,
     pub content: Content,

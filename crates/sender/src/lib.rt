@@ -21,7 +21,8 @@ ghost use mathlib.Core.Bool.{true, false};
 ghost use Rattle.sender.specs.Sender.{ticked, framerOf, framerIn, byFramer, byTypist, bySyncing, withBreak, tick};
 ghost use Rattle.sender.specs.Sender.{withShared, blockIn, tickInSdlc, tickInBlocks, written, aborted, checkPreset, latchCleared, idled, atReset, allSent, bufferReady};
 
-// SDLC's unit and zero insertion, the asynchronous character, the unit of Monosync and Bisync, and what all modes share.
+// What all modes share, the asynchronous character, SDLC's unit and zero insertion, and the unit of Monosync and Bisync, in the order that ticks
+// like (channel's Channel).
 pub struct Sender {
     pub shared: Shared,
     pub character: Character,
