@@ -17,23 +17,9 @@ use Rattle.receiver.specs.declared.Receiving.{Receiving}
 use Rattle.settings.specs.declared.Registers.{Registers}
 use Rattle.settings.specs.declared.Lines.{Lines}
 
--- "WR4: D0 parity, D1 even, D3-2 stop bits 01 one, 11 two, 00 synchronous; D5-4 10 SDLC." 02, P3,
--- and the chip maker's manual: D5-4 00 Monosync, 01 Bisync
-abbrev pub stopField : ℕ → ℕ
-stopField wr4 = wr4 / 4 % 4
-
-abbrev pub synchronousField : ℕ → ℕ
-synchronousField wr4 = wr4 / 16 % 4
-
-unfoldable pub modeOf : ℕ → Mode
-modeOf wr4 =
-    if eqb (stopField wr4) 0
-    then (if eqb (synchronousField wr4) 2 then Sdlc
-    else (if eqb (synchronousField wr4) 1 then Bisync else Monosync))
-    else Asynchronous
-
--- the registers as written, and one of them written anew; the mode is what the last WR4 chose: a
--- reset "zeroes the WRs" and "leaves no mode", and a WR4 of zero, once it is written, is Monosync
+-- the registers as written, and one of them written anew (WR4: below); the mode is what the last
+-- WR4 chose: a reset "zeroes the WRs" and "leaves no mode", and a WR4 of zero, once it is written,
+-- is Monosync
 abbrev pub registers : ℕ → ℕ → ℕ → ℕ → ℕ → ℕ → ℕ → Mode → Registers
 registers a b c d e f g m =
     record { wr1 = a; wr2 = b; wr3 = c; wr4 = d; wr5 = e; wr6 = f; wr7 = g; mode = m }
@@ -49,10 +35,6 @@ store2 r v =
 abbrev pub store3 : Registers → ℕ → Registers
 store3 r v =
     registers (r .wr1) (r .wr2) v (r .wr4) (r .wr5) (r .wr6) (r .wr7) (r .mode)
-
-abbrev pub store4 : Registers → ℕ → Registers
-store4 r v =
-    registers (r .wr1) (r .wr2) (r .wr3) v (r .wr5) (r .wr6) (r .wr7) (modeOf v)
 
 abbrev pub store5 : Registers → ℕ → Registers
 store5 r v =
@@ -96,6 +78,26 @@ entersHunt wr3 = odd (wr3 / 16)
 
 abbrev pub autoEnables : Registers → Bool
 autoEnables r = odd (r .wr3 / 32)
+
+-- "WR4: D0 parity, D1 even, D3-2 stop bits 01 one, 11 two, 00 synchronous; D5-4 10 SDLC." 02, P3,
+-- and the chip maker's manual: D5-4 00 Monosync, 01 Bisync
+abbrev pub stopField : ℕ → ℕ
+stopField wr4 = wr4 / 4 % 4
+
+abbrev pub synchronousField : ℕ → ℕ
+synchronousField wr4 = wr4 / 16 % 4
+
+unfoldable pub modeOf : ℕ → Mode
+modeOf wr4 =
+    if eqb (stopField wr4) 0
+    then (if eqb (synchronousField wr4) 2 then Sdlc
+    else (if eqb (synchronousField wr4) 1 then Bisync else Monosync))
+    else Asynchronous
+
+-- WR4 written anew, and with it the mode
+abbrev pub store4 : Registers → ℕ → Registers
+store4 r v =
+    registers (r .wr1) (r .wr2) (r .wr3) v (r .wr5) (r .wr6) (r .wr7) (modeOf v)
 
 abbrev pub modeIn : Registers → Mode
 modeIn r = r .mode
