@@ -14,8 +14,8 @@ ghost use Rattle.channel.specs.declared.Answer.the-variants.{Done};
 ghost use Rattle.channel.specs.Channel.{answered};
 ghost use Rattle.channel.specs.Events.{transmitTick, receiveTick};
 ghost use Rattle.chip.specs.Interrupts.{inService};
-ghost use Rattle.chip.specs.Chip.{refused, inA, inB, hardReset, serviceBy, controlWrite, controlReadCall, dataWriteIn, dataWriteCall};
-ghost use Rattle.chip.specs.Chip.{dataReadCall, transmitCall, receiveIn, receiveCall, linesIn, linesCall};
+ghost use Rattle.chip.specs.Chip.{refused, inA, inB, hardReset, serviceBy, controlWrite, controlReadCall, dataWriteCall};
+ghost use Rattle.chip.specs.Chip.{dataReadCall, transmitCall, receiveCall, linesCall};
 
 pub struct Chip {
     pub a: Channel,
@@ -40,31 +40,6 @@ fn ticked(c: Channel) -> Answered
 {
     let a = c;
     a.transmit_tick()
-}
-
-// A data write of a channel, as a call answers it; the others likewise.
-fn data_write_in(c: Channel, v: u8) -> Answered
-    ensures { λ r. ⌜ r ≡ dataWriteIn c v ⌝ }
-{
-    Answered {
-        answer: Answer::Done,
-        channel: c.data_write(v),
-    }
-}
-
-fn lines_in(c: Channel, dcd: u8, cts: u8) -> Answered
-    ensures { λ r. ⌜ r ≡ linesIn c dcd cts ⌝ }
-{
-    if (2 <= dcd) | (2 <= cts) {
-        return Answered {
-            answer: Answer::Refused(Refusal::Level),
-            channel: c,
-        };
-    }
-    Answered {
-        answer: Answer::Done,
-        channel: c.set_lines(dcd == 1, cts == 1),
-    }
 }
 
 impl Chip {
@@ -145,10 +120,10 @@ impl Chip {
         ensures { λ r. ⌜ r ≡ controlReadCall self ch ⌝ }
     {
         if ch == 0 {
-            return self.in_a(self.a.control_read(self.any_pending(), 0));
+            return self.in_a(reading::control_read(self.a, self.any_pending(), 0));
         }
         if ch == 1 {
-            return self.in_b(self.b.control_read(false, self.rr2()));
+            return self.in_b(reading::control_read(self.b, false, self.rr2()));
         }
         self.refused(Refusal::Channel)
     }
@@ -158,10 +133,10 @@ impl Chip {
         ensures { λ r. ⌜ r ≡ dataWriteCall self ch v ⌝ }
     {
         if ch == 0 {
-            return self.in_a(data_write_in(self.a, v));
+            return self.in_a(self.a.data_write(v));
         }
         if ch == 1 {
-            return self.in_b(data_write_in(self.b, v));
+            return self.in_b(self.b.data_write(v));
         }
         self.refused(Refusal::Channel)
     }
@@ -239,59 +214,59 @@ impl Chip {
     }
 
     // A's receive tick, and B's; most lie inside a character.
-    fn receive_a(self, bit: u8) -> Outcome
-        ensures { λ r. ⌜ r ≡ inA self (receiveIn (self .a) bit) ⌝ }
+    fn receive_a(self, bit: bool) -> Outcome
+        ensures { λ r. ⌜ r ≡ inA self (answered Done (receiveTick (self .a) bit)) ⌝ }
     {
-        if 2 <= bit {
-            return self.refused(Refusal::Level);
-        }
         if self.a.hears_block() {
-            return self.in_a(self.a.hear_block(bit == 1));
+            return self.in_a(self.a.hear_block(bit));
         }
-        if self.a.hears_within(bit == 1) {
-            return self.in_a(self.a.hear_within(bit == 1));
+        if self.a.hears_within(bit) {
+            return self.in_a(self.a.hear_within(bit));
         }
-        self.heard_a(bit == 1)
+        self.heard_a(bit)
     }
 
-    fn receive_b(self, bit: u8) -> Outcome
-        ensures { λ r. ⌜ r ≡ inB self (receiveIn (self .b) bit) ⌝ }
+    fn receive_b(self, bit: bool) -> Outcome
+        ensures { λ r. ⌜ r ≡ inB self (answered Done (receiveTick (self .b) bit)) ⌝ }
     {
-        if 2 <= bit {
-            return self.refused(Refusal::Level);
-        }
         if self.b.hears_block() {
-            return self.in_b(self.b.hear_block(bit == 1));
+            return self.in_b(self.b.hear_block(bit));
         }
-        if self.b.hears_within(bit == 1) {
-            return self.in_b(self.b.hear_within(bit == 1));
+        if self.b.hears_within(bit) {
+            return self.in_b(self.b.hear_within(bit));
         }
-        self.heard_b(bit == 1)
+        self.heard_b(bit)
     }
 
     // Receive tick.
     pub fn receive(self, ch: u8, bit: u8) -> Outcome
         ensures { λ r. ⌜ r ≡ receiveCall self ch bit ⌝ }
     {
+        if 2 <= ch {
+            return self.refused(Refusal::Channel);
+        }
+        if 2 <= bit {
+            return self.refused(Refusal::Level);
+        }
         if ch == 0 {
-            return self.receive_a(bit);
+            return self.receive_a(bit == 1);
         }
-        if ch == 1 {
-            return self.receive_b(bit);
-        }
-        self.refused(Refusal::Channel)
+        self.receive_b(bit == 1)
     }
 
     // Set DCD and CTS.
     pub fn set_lines(self, ch: u8, dcd: u8, cts: u8) -> Outcome
         ensures { λ r. ⌜ r ≡ linesCall self ch dcd cts ⌝ }
     {
+        if 2 <= ch {
+            return self.refused(Refusal::Channel);
+        }
+        if (2 <= dcd) | (2 <= cts) {
+            return self.refused(Refusal::Level);
+        }
         if ch == 0 {
-            return self.in_a(lines_in(self.a, dcd, cts));
+            return self.in_a(self.a.set_lines(dcd == 1, cts == 1));
         }
-        if ch == 1 {
-            return self.in_b(lines_in(self.b, dcd, cts));
-        }
-        self.refused(Refusal::Channel)
+        self.in_b(self.b.set_lines(dcd == 1, cts == 1))
     }
 }

@@ -1,4 +1,3 @@
--- `channel::Channel::data_write` meets its contract: each return by the facts on its way. Assumes nothing.
 use Rattle.channel.proofs.Branch.{tests}
 use borrow.Author.Needs.{needs}
 use Rattle.channel.proofs.Channel.data_write.Statement.{statement}

@@ -1,4 +1,4 @@
--- `channel::Channel::set_lines` meets its contract: each return by the facts on its way. Assumes nothing.
+use Rattle.channel.proofs.Branch.{tests}
 use Rattle.channel.specs.Events.{linesSet}
 use borrow.Author.Needs.{needs}
 use Rattle.channel.proofs.Channel.set_lines.Statement.{statement}
@@ -9,7 +9,7 @@ settled-requires c κs = search needs
 
 returns : tie.Need-returns
 unfolding linesSet
-returns c = c .settled .ensures
+returns c = simp (tests, c .settled .ensures)
 
 pub set-lines-spec : {M : Type 1} → statement M
 set-lines-spec = tie.close (tie.spec settled-requires returns)

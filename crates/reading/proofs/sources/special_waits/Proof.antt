@@ -1,9 +1,8 @@
--- `channel::Channel::special_waits` meets its contract: each return by the facts on its way. Assumes nothing.
+use Rattle.reading.proofs.Branch.{tests}
 use Rattle.channel.specs.Events.{specialWaits}
-use Rattle.channel.proofs.Branch.{tests}
 use borrow.Author.Needs.{needs}
-use Rattle.channel.proofs.Channel.special_waits.Statement.{statement}
-use Rattle.channel.proofs.Channel.special_waits.Tie as tie
+use Rattle.reading.proofs.sources.special_waits.Statement.{statement}
+use Rattle.reading.proofs.sources.special_waits.Tie as tie
 
 receive-mode-requires : tie.Need-receive-mode-requires
 receive-mode-requires c κs = search needs

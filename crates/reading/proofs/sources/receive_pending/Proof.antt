@@ -1,9 +1,8 @@
--- `channel::Channel::receive_pending` meets its contract: each return by the facts on its way. Assumes nothing.
-use Rattle.channel.proofs.Branch.{tests}
+use Rattle.reading.proofs.Branch.{tests}
 use Rattle.channel.specs.Events.{receivePending}
 use borrow.Author.Needs.{needs}
-use Rattle.channel.proofs.Channel.receive_pending.Statement.{statement}
-use Rattle.channel.proofs.Channel.receive_pending.Tie as tie
+use Rattle.reading.proofs.sources.receive_pending.Statement.{statement}
+use Rattle.reading.proofs.sources.receive_pending.Tie as tie
 
 receive-mode-requires : tie.Need-receive-mode-requires
 receive-mode-requires c κs = search needs

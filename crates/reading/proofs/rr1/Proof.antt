@@ -1,9 +1,8 @@
--- `channel::Channel::rr1` meets its contract: each return by the facts on its way. Assumes nothing.
-use Rattle.channel.proofs.Branch.{tests}
+use Rattle.reading.proofs.Branch.{tests}
 use Rattle.channel.specs.Control.{rr1Now}
 use borrow.Author.Needs.{needs}
-use Rattle.channel.proofs.Channel.rr1.Statement.{statement}
-use Rattle.channel.proofs.Channel.rr1.Tie as tie
+use Rattle.reading.proofs.rr1.Statement.{statement}
+use Rattle.reading.proofs.rr1.Tie as tie
 
 sending-requires : tie.Need-sending-requires
 sending-requires c κs = search needs

@@ -1,9 +1,8 @@
--- `channel::Channel::pending` meets its contract: each return by the facts on its way. Assumes nothing.
-use Rattle.channel.proofs.Branch.{tests}
+use Rattle.reading.proofs.Branch.{tests}
 use Rattle.channel.specs.Events.{pendingIn}
 use borrow.Author.Needs.{needs}
-use Rattle.channel.proofs.Channel.pending.Statement.{statement}
-use Rattle.channel.proofs.Channel.pending.Tie as tie
+use Rattle.reading.proofs.sources.pending.Statement.{statement}
+use Rattle.reading.proofs.sources.pending.Tie as tie
 
 receive-pending-requires : tie.Need-receive-pending-requires
 receive-pending-requires c κs = search needs

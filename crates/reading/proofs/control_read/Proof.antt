@@ -1,8 +1,7 @@
--- `channel::Channel::control_read` meets its contract: each return by the facts on its way. Assumes nothing.
-use Rattle.channel.proofs.Branch.{tests}
+use Rattle.reading.proofs.Branch.{tests}
 use borrow.Author.Needs.{needs}
-use Rattle.channel.proofs.Channel.control_read.Statement.{statement}
-use Rattle.channel.proofs.Channel.control_read.Tie as tie
+use Rattle.reading.proofs.control_read.Statement.{statement}
+use Rattle.reading.proofs.control_read.Tie as tie
 
 read-register-requires : tie.Need-read-register-requires
 read-register-requires c κs = search needs

@@ -1,8 +1,8 @@
--- `channel::Channel::rr0` meets its contract: each return by the facts on its way. Assumes nothing.
+-- `reading::rr0` meets its contract: each return by the facts on its way. Assumes nothing.
 use Rattle.channel.specs.Control.{rr0}
 use borrow.Author.Needs.{needs}
-use Rattle.channel.proofs.Channel.rr0.Statement.{statement}
-use Rattle.channel.proofs.Channel.rr0.Tie as tie
+use Rattle.reading.proofs.rr0.Statement.{statement}
+use Rattle.reading.proofs.rr0.Tie as tie
 
 sending-requires : tie.Need-sending-requires
 sending-requires c κs = search needs

@@ -1,9 +1,8 @@
--- `channel::Channel::read_register` meets its contract: each return by the facts on its way. Assumes nothing.
-use Rattle.channel.proofs.Branch.{tests}
+use Rattle.reading.proofs.Branch.{tests}
 use Rattle.channel.specs.Control.{readRegister}
 use borrow.Author.Needs.{needs}
-use Rattle.channel.proofs.Channel.read_register.Statement.{statement}
-use Rattle.channel.proofs.Channel.read_register.Tie as tie
+use Rattle.reading.proofs.read_register.Statement.{statement}
+use Rattle.reading.proofs.read_register.Tie as tie
 
 rr0-requires : tie.Need-rr0-requires
 rr0-requires c κs = search needs
