@@ -22,7 +22,7 @@ use Rattle.feed.specs.Laws.Feeding.{if-true}
 use Rattle.drive.specs.Drive.{frameOpened, ticksLeft, sentBy}
 use Rattle.drive.specs.Framer.{chipWith}
 use Rattle.drive.specs.Laws.Frame.{beginning, begins, driven-frame, come-length}
-use Rattle.report.specs.Laws.Ticks.{fits-bounds}
+use Rattle.line.specs.Laws.Line.{fits-few}
 
 fed-frame : (c : Chip) (v : ℕ) (vs : List ℕ) → noteFits (length (v ∷ vs)) ≡ true
     → frameFed (frameOpened c v .a .sender .shared) vs
@@ -30,7 +30,7 @@ fed-frame : (c : Chip) (v : ℕ) (vs : List ℕ) → noteFits (length (v ∷ vs)
 unfolding frameFed toTheEnd
 fed-frame c v vs f =
     let own = ap (λ (s : Framer). s .shared) (begins c v .sends) in
-    let few : length vs < mostToWrite = omega (arith, fits-bounds (length (v ∷ vs)) f .1) in
+    let few : length vs < mostToWrite = omega (arith, fits-few (length (v ∷ vs)) f .1) in
     ap (λ (k : Shared). frameFed k vs) own
     ∙ if-true (toTheEnd (beginning v) vs) (ran 0 (beginning v)) (lt-ltb (length vs) mostToWrite few)
     ∙ ap (λ (n : ℕ). ran n (afterTicks n (beginning v) vs)) (come-length v vs)
