@@ -2,20 +2,24 @@
 use mathlib.Core.Bool.{Bool, true, false}
 use mathlib.Core.List.{List}
 use Prim.Native.Nat.{ℕ, _+_, _≤_}
+use lib.Dec.{eqb}
 use lib.ListN.{length}
 use Rattle.common.specs.Choice.{if_then_else_}
 use Rattle.common.specs.declared.Refusal.the-variants.{NoteLength}
 use Rattle.line.specs.Frame.{zerosOf, ticksOf}
 use Rattle.line.specs.Line.{noteFits}
+use Rattle.flags.specs.declared.Between.{Between}
+use Rattle.flags.specs.Flags.{ownFlag}
 use Rattle.chip.specs.declared.Chip.{Chip}
 use Rattle.drive.specs.Drive.{sentBy}
 use Rattle.report.specs.Report.{rowLength, Report, report, refusal}
-use Rattle.station.specs.declared.Told.{Told}
-use Rattle.station.specs.declared.Told.the-variants as told
+use Rattle.told.specs.declared.Told.{Told}
+use Rattle.told.specs.declared.Told.the-variants as told
 use Rattle.station.specs.declared.Sent.{Sent}
-use Rattle.station.specs.declared.Listed.{Listed}
-use Rattle.station.specs.declared.Listed.the-variants as listed
+use Rattle.told.specs.declared.Listed.{Listed}
+use Rattle.told.specs.declared.Listed.the-variants as listed
 use Rattle.station.specs.declared.ListSent.{ListSent}
+use Rattle.station.specs.declared.list.Walk.{Walk}
 
 -- A note
 
@@ -42,3 +46,12 @@ listSent l c = record { listed = l; chip = c }
 abbrev pub Room : Bool → ℕ → List ℕ → Type 0
 Room true at rows = at + rowLength ≤ length rows
 Room false at rows = Unit
+
+-- the ticks of a note's own flag before it, so many having gone
+unfoldable pub flagBefore : Between → ℕ → ℕ
+flagBefore between gone = if eqb gone 0 then 0 else length (ownFlag between)
+
+-- one note more
+abbrev pub walkedOn : Walk → List ℕ → Walk
+walkedOn w note =
+    record { at = w .at + 2 + length note; notes = w .notes + 1; sum = w .sum + ticksOf note }

@@ -20,9 +20,10 @@ use Rattle.chip.specs.declared.Chip.{Chip}
 use Rattle.drive.specs.Drive.{sentBy}
 use Rattle.listline.specs.ListLine.{flagged, sentNext, sentAll, beforeNote, chipAfter}
 use Rattle.report.specs.Report.{rowOf, rowLength, rowsFrom, reported, hasRoom, toldAt, rowsIn}
-use Rattle.station.specs.declared.Listed.{Listed}
-use Rattle.station.specs.declared.Listed.the-variants as listed
-use Rattle.station.specs.Station.{listedOf, Room}
+use Rattle.told.specs.declared.Listed.{Listed}
+use Rattle.told.specs.declared.Listed.the-variants as listed
+use Rattle.station.specs.declared.list.Walk.{Walk}
+use Rattle.station.specs.Station.{listedOf, Room, walkedOn}
 
 -- What a walk has done so far, and what it comes to
 
@@ -143,18 +144,12 @@ pub toldAt-length : (told : Bool) (lent : List ℕ) (at : ℕ) (rows : List ℕ)
 toldAt-length true lent at rows = length-sets lent at rows
 toldAt-length false lent at rows = refl
 
--- one note more, from what its parts are known to be
-pub one-sent : (between : Between) (told : Bool) (w : Walked) (note : List ℕ)
-    {after : Chip} {now : List ℕ} {k z t : ℕ}
-    → k ≡ length note → z ≡ zerosOf note → t ≡ ticksOf note
-    → after ≡ sentBy (beforeNote between (w .notes) (w .chip)) note
-    → now ≡ toldAt told (w .rows) (rowLength * w .notes) ((w .notes + 1) ∷ (k ∷ (z ∷ (t ∷ []))))
-    → walked after (w .notes + 1) (w .sum + t) now ≡ oneSent between told w note
-one-sent between told w note {k = k} {z = z} {t = t} ek ez et ea er =
-    let n = w .notes + 1 in
-    let put : ℕ → ℕ → ℕ → List ℕ =
-    λ a b c. toldAt told (w .rows) (rowLength * w .notes) (n ∷ (a ∷ (b ∷ (c ∷ [])))) in
-    let rows =
-    er ∙ ap (λ (x : ℕ). put x z t) ek ∙ ap (λ (x : ℕ). put (length note) x t) ez
-    ∙ ap (λ (x : ℕ). put (length note) (zerosOf note) x) et in
-    λ i. walked (ea i) n (w .sum + et i) (rows i)
+-- one note more
+pub one-sent : (between : Between) (told : Bool) (c : Chip) (w : Walk) (rows note : List ℕ)
+    {after : Chip} {on : Walk} {now : List ℕ}
+    → after ≡ sentBy (beforeNote between (w .notes) c) note → on ≡ walkedOn w note
+    → now ≡ toldAt told rows (rowLength * w .notes) (rowOf (w .notes + 1) note)
+    → walked after (on .notes) (on .sum) now
+    ≡ oneSent between told (walked c (w .notes) (w .sum) rows) note
+one-sent between told c w rows note ea eo er =
+    λ i. walked (ea i) (eo i .notes) (eo i .sum) (er i)

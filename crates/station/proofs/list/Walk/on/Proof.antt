@@ -1,0 +1,80 @@
+-- `station::list::Walk::on` meets its contract. Assumes nothing.
+use mathlib.Core.Path.{_≡_, ap, _∙_}
+use mathlib.Core.List.{[], _∷_}
+use Prim.Native.Nat.{_+_, _*_}
+use native.Mathlib.Omega.{arith}
+use lib.ListN.{length}
+use denote.Ref.{now}
+use Rattle.report.specs.Report.{toldAt}
+use Rattle.report.specs.Laws.Ticks.{fits-bounds, ticks-few}
+use Rattle.told.specs.Answers.{toldZeros, toldTicks}
+use borrow.Author.Needs.{needs}
+use Rattle.station.proofs.list.Walk.on.Statement.{statement}
+use Rattle.station.proofs.list.Walk.on.Tie as tie
+
+add-m : tie.Need-add-m
+add-m c = search needs
+
+gone-requires : tie.Need-gone-requires
+gone-requires c κs = let s = c .before .before .before in (s .pre .0, s .pre .1 .0)
+
+ticks-requires : tie.Need-ticks-requires
+ticks-requires c κs = search needs
+
+mul-put-row : tie.Need-mul-put-row
+mul-put-row c = search needs
+
+zeros-requires : tie.Need-zeros-requires
+zeros-requires c κs = search needs
+
+put-row-requires : tie.Need-put-row-requires
+put-row-requires c κs =
+    let s = c .before .before .before .before .before .before .before .before in
+    (s .pre .1 .1 .0, omega (arith, s .pre .1 .1 .1 .0))
+
+add-t12 : tie.Need-add-t12
+add-t12 c = search needs
+
+add-t13 : tie.Need-add-t13
+add-t13 c = search needs
+
+add-t15 : tie.Need-add-t15
+add-t15 c =
+    let d = c .before .before .before .before .before .before .before .before in
+    let s = d .before .before .before .before .before in
+    let ticks = d .ticks .ensures ∙ ap toldTicks (d .before .gone .ensures) in
+    omega (arith, ticks, ticks-few (now (s .args .note)) (s .pre .0), s .pre .1 .1 .1 .1 .1)
+
+same-length : tie.Need-same-length
+same-length c = search needs
+
+returns : tie.Need-returns
+returns c =
+    let d = c .before .before .before .before .before .before .before .before in
+    let s = d .before .before .before .before .before in
+    let w = s .args .self in
+    let note = now (s .args .note) in
+    let gone = d .before .gone .ensures in
+    let ticks = d .ticks .ensures ∙ ap toldTicks gone in
+    let zeros = c .before .before .before .before .before .zeros .ensures ∙ ap toldZeros gone in (
+      λ i. record { at = w .at + 2 + length note; notes = w .notes + 1; sum = w .sum + ticks i },
+      c .before .before .before .before .put-row .ensures
+          ∙ (λ i. toldAt (s .args .told) (now (s .args .rows)) (4 * w .notes)
+          ((w .notes + 1) ∷ (length note ∷ (zeros i ∷ (ticks i ∷ []))))),
+    )
+
+pub on-spec : {M : Type 1} → statement M
+on-spec =
+    tie.close
+    (tie.spec
+    add-m
+    gone-requires
+    ticks-requires
+    mul-put-row
+    zeros-requires
+    put-row-requires
+    add-t12
+    add-t13
+    add-t15
+    same-length
+    returns)
