@@ -28,7 +28,7 @@ use Rattle.drive.specs.Framer.{chipWith}
 use Rattle.drive.specs.Laws.Frame.{beginning, begins, driven-frame, come-length}
 use Rattle.listline.specs.ListLine.{flagged, beforeNote}
 use Rattle.report.specs.Laws.Ticks.{fits-bounds}
-use Rattle.station.specs.Station.{flagBefore}
+use Rattle.station.specs.Walk.{flagBefore}
 
 fed-frame : (c : Chip) (v : ℕ) (vs : List ℕ) → noteFits (length (v ∷ vs)) ≡ true
     → frameFed (frameOpened c v .a .sender .shared) vs

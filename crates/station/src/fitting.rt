@@ -19,7 +19,7 @@ ghost use Rattle.feed.specs.Feeding.{frameFed};
 ghost use Rattle.drive.specs.Drive.{frameOpened};
 ghost use Rattle.listline.specs.ListLine.{beforeNote};
 ghost use Rattle.told.specs.declared.Told.the-variants.{Gone};
-ghost use Rattle.station.specs.Station.{flagBefore};
+ghost use Rattle.station.specs.Walk.{flagBefore};
 
 // The ticks of a flag of its own before a note, so many having gone: the first has none.
 fn flag_before(between: Between, gone: usize) -> usize

@@ -1,16 +1,17 @@
 // The planner's side: a station sends notes through channel A of a chip, a list note by note. Any chip is accepted, whatever its channel A was
 // doing. Assumes nothing.
 mod fitting;
-mod list;
+mod walk;
 
 use crate::fitting::feed_rest;
 use crate::fitting::gone;
-use crate::list::send_notes;
+use crate::fitting::open_next;
+use crate::walk::Walk;
 use chip::Chip;
 use common::Refusal;
 use flags::Between;
+use head::note_at;
 use line::note_fits;
-use notes::Scanned;
 use notes::scan;
 use opening::chip_with;
 use opening::open_frame;
@@ -58,20 +59,21 @@ pub fn send(mut c: Chip, note: &[u8]) -> Sent
 
 // A list through channel A: it is checked first, then each note goes from the middle of the list, without a copy, one behind the other by this
 // choice. The rows go into the lent part, all of them or, where it is too short, none.
-pub fn send_list(c: Chip, list: &[u8], rows: &mut [usize], between: Between) -> ListSent
+pub fn send_list(mut c: Chip, list: &[u8], rows: &mut [usize], between: Between) -> ListSent
     ensures { λ r. ⌜ r ≡ listSent (listedOf (reportOf between (now (list .entry)))) (chipAfter between c (readList (now (list .entry)))) ⌝ }
     ensures { λ r. ⌜ now (rows .exit) ≡ rowsIn (now (rows .entry)) (reportOf between (now (list .entry))) ⌝ }
 {
     let s = scan(list);
-    match s {
-        Scanned::Notes(n) => {
-            return send_notes(c, list, rows, n, between);
-        }
-        Scanned::Refused(k) => {
-            return ListSent {
-                listed: Listed::Refused(k),
-                chip: c,
-            };
-        }
+    let mut w = Walk::start(s, rows.len());
+    while w.notes < w.all {
+        let note = note_at(list, w.at);
+        c = open_next(c, between, w.notes, note);
+        let r = feed_rest(c.a.sender.shared, note);
+        c = chip_with(c, r.framer);
+        w = w.on(rows, note, r.ticks);
+    }
+    ListSent {
+        listed: w.listed(s, between),
+        chip: c,
     }
 }

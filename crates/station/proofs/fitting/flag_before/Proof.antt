@@ -1,6 +1,6 @@
 -- `station::fitting::flag_before` meets its contract. Assumes nothing.
 use Rattle.common.specs.Tools.{tests}
-use Rattle.station.specs.Station.{flagBefore}
+use Rattle.station.specs.Walk.{flagBefore}
 use borrow.Author.Needs.{needs}
 use Rattle.station.proofs.fitting.flag_before.Statement.{statement}
 use Rattle.station.proofs.fitting.flag_before.Tie as tie
