@@ -131,11 +131,15 @@ pub fn next(c: Chip, events: &[u8], at: usize) -> Told
 {
     let f = found_at(events, at);
     match f {
-        Found::Known(e) => played(script::step(c, e.code, e.x, e.y, e.z), e.behind),
-        Found::Ended(e) => Told {
-            line: last_line(e, at),
-            chip: c,
-            at: events.len(),
-        },
+        Found::Known(e) => {
+            return played(script::step(c, e.code, e.x, e.y, e.z), e.behind);
+        }
+        Found::Ended(e) => {
+            return Told {
+                line: last_line(e, at),
+                chip: c,
+                at: events.len(),
+            };
+        }
     }
 }

@@ -39,7 +39,7 @@ next-spec =
     enum-known-f
     step-requires
     played-requires
+    returns
     enum-known-f-2
     last-line-requires
-    returns
     returns-2)
