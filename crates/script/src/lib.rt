@@ -1,12 +1,12 @@
 // The events of 01 by their codes, and what a host sees of one: its refusal, the value that it gave, and the registers behind it.
 // Assumes nothing.
 use channel::Answer;
-use chip::Acknowledged;
 use chip::Chip;
 use chip::Outcome;
 use common::Refusal;
 use vector::Acked;
 ghost use mathlib.Core.Path.{_≡_};
+ghost use Rattle.chip.specs.Interrupts.{acknowledge};
 ghost use Rattle.script.specs.Step.{answerOf, acknowledged, plain, unnamed, named, step};
 ghost use Rattle.script.specs.Shown.{registerOf, shown};
 
@@ -39,11 +39,12 @@ fn answer_of(w: Acked) -> Answer
     }
 }
 
-fn acknowledged(o: Acknowledged) -> Outcome
-    ensures { λ r. ⌜ r ≡ acknowledged o ⌝ }
+fn acknowledged(mut c: Chip) -> Outcome
+    ensures { λ r. ⌜ r ≡ acknowledged (acknowledge c) ⌝ }
 {
+    let o = c.acknowledge();
     let w = o.acked;
-    let c = o.chip;
+    c = o.chip;
     Outcome {
         answer: answer_of(w),
         chip: c,
@@ -70,7 +71,7 @@ fn unnamed(mut c: Chip, code: u8) -> Outcome
             return plain(c);
         }
         ACKNOWLEDGE => {
-            return acknowledged(c.acknowledge());
+            return acknowledged(c);
         }
         _ => {
             c = c.reti();

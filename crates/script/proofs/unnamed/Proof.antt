@@ -15,15 +15,12 @@ returns : tie.Need-returns
 unfolding unnamed
 returns c = simp (tests, c .before .before .match .keys1, ← c .before .reset .ensures) (c .plain .ensures)
 
-acknowledge-requires : tie.Need-acknowledge-requires
-acknowledge-requires c κs = search needs
-
 acknowledged-requires : tie.Need-acknowledged-requires
 acknowledged-requires c κs = search needs
 
 returns-2 : tie.Need-returns-2
 unfolding unnamed
-returns-2 c = simp (tests, c .before .before .match .keys2, ← c .before .acknowledge .ensures) (c .acknowledged .ensures)
+returns-2 c = simp (tests, c .before .match .keys2) (c .acknowledged .ensures)
 
 reti-requires : tie.Need-reti-requires
 reti-requires c κs = search needs
@@ -42,7 +39,6 @@ unnamed-spec =
     reset-requires
     plain-requires
     returns
-    acknowledge-requires
     acknowledged-requires
     returns-2
     reti-requires
