@@ -11,9 +11,6 @@ found-at-requires c κs = search needs
 enum-known-f : tie.Need-enum-known-f
 enum-known-f c = search needs
 
-step-requires : tie.Need-step-requires
-step-requires c κs = search needs
-
 played-requires : tie.Need-played-requires
 played-requires c κs = search needs
 
@@ -25,7 +22,7 @@ last-line-requires c κs = search needs
 
 returns : tie.Need-returns
 unfolding next
-returns c = simp (tests, c .before .before .before .f .given .1, ← c .before .step .ensures, ← c .before .before .before .before .before .found-at .ensures) (c .played .ensures)
+returns c = simp (tests, c .before .before .f .given .1, ← c .before .before .before .before .found-at .ensures) (c .played .ensures)
 
 returns-2 : tie.Need-returns-2
 unfolding next
@@ -37,9 +34,8 @@ next-spec =
     (tie.spec
     found-at-requires
     enum-known-f
-    step-requires
     played-requires
+    returns
     enum-known-f-2
     last-line-requires
-    returns
     returns-2)

@@ -4,11 +4,14 @@ use borrow.Author.Needs.{needs}
 use Rattle.script.proofs.acknowledged.Statement.{statement}
 use Rattle.script.proofs.acknowledged.Tie as tie
 
+acknowledge-requires : tie.Need-acknowledge-requires
+acknowledge-requires c κs = search needs
+
 answer-of-requires : tie.Need-answer-of-requires
 answer-of-requires c κs = search needs
 
 returns : tie.Need-returns
-returns c = simp (tests, c .answer-of .ensures)
+returns c = simp (tests, c .answer-of .ensures, c .before .before .acknowledge .ensures)
 
 pub acknowledged-spec : {M : Type 1} → statement M
-acknowledged-spec = tie.close (tie.spec answer-of-requires returns)
+acknowledged-spec = tie.close (tie.spec acknowledge-requires answer-of-requires returns)

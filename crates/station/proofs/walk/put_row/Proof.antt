@@ -1,12 +1,12 @@
--- `station::put_row` meets its contract. Assumes nothing.
+-- `station::walk::put_row` meets its contract. Assumes nothing.
 use mathlib.Core.Path.{_≡_, refl, sym, ap, _∙_}
 use Prim.Native.Nat.{suc, _+_}
 use native.Mathlib.Omega.{arith}
 use native.Mathlib.Numerals.{add-one}
 use lib.ListN.{length-set}
 use borrow.Author.Needs.{needs}
-use Rattle.station.proofs.list.put_row.Statement.{statement}
-use Rattle.station.proofs.list.put_row.Tie as tie
+use Rattle.station.proofs.walk.put_row.Statement.{statement}
+use Rattle.station.proofs.walk.put_row.Tie as tie
 
 mul-rows : tie.Need-mul-rows
 mul-rows c = omega (arith, c .before .pre .1)
