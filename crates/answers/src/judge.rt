@@ -1,16 +1,12 @@
-// The calls that need no chip, or a chip of their own.
+// The calls that need no chip.
 use crate::CHECK;
 use crate::Item;
 use crate::LINE;
 use crate::REGISTER;
 use crate::SCAN;
-use crate::TRACE;
 use crate::ZEROS;
-use crate::part;
 use crate::two;
 use crate::wide;
-use chip::Chip;
-use text::Line;
 use zeros::Counted;
 ghost use mathlib.Core.Path.{_≡_};
 ghost use lib.ListN.{length};
@@ -91,45 +87,6 @@ fn written(t: Item, note: &[u8], bits: &[u8]) -> bool {
     written_in(&mut out, t, note, bits)
 }
 
-// More lines than a run can have.
-const LINES: u16 = 20000;
-
-// The place behind a line that stands at this place of a text; where it does not, the greatest, at which no line stands.
-fn place_behind(text: &[u8], place: usize, l: Line) -> usize {
-    let line = l.text;
-    let bytes = part(&line, l.size);
-    if text.len() < place {
-        return GREATEST;
-    }
-    if text.len() - place < bytes.len() {
-        return GREATEST;
-    }
-    let end = place + bytes.len();
-    if check::same(&text[place..end], bytes) {
-        return end;
-    }
-    GREATEST
-}
-
-// What the program trace prints for these events is this text.
-fn traced(events: &[u8], wanted: &[u8]) -> bool {
-    let mut chip = Chip::reset();
-    let mut at = 0;
-    let mut place = 0;
-    let mut left = LINES;
-    while 0 < left {
-        let t = events::next(chip, events, at);
-        if t.line.size == 0 {
-            return place == wanted.len();
-        }
-        place = place_behind(wanted, place, t.line);
-        chip = t.chip;
-        at = t.at;
-        left = left - 1;
-    }
-    false
-}
-
 // A call that leaves the chip as it is, and what a host reads in the register that it may name.
 pub(crate) fn judged(t: Item, register: u8, given: &[u8], wanted: &[u8]) -> bool {
     let kind = t.kind;
@@ -142,7 +99,6 @@ pub(crate) fn judged(t: Item, register: u8, given: &[u8], wanted: &[u8]) -> bool
             let s = notes::scan(given);
             t.is(s.number(), s.notes())
         }
-        TRACE => traced(given, wanted),
         _ => false,
     }
 }

@@ -45,9 +45,7 @@ const LINE: u8 = 17;
 
 const SCAN: u8 = 18;
 
-const TRACE: u8 = 19;
-
-const SHARED_LIST: u8 = 20;
+const SHARED_LIST: u8 = 19;
 
 const STOP: u8 = 255;
 
