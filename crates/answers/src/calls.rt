@@ -1,4 +1,6 @@
 // The calls that leave the chip as it is.
+use crate::list::listed;
+use chip::Chip;
 use items::Item;
 use items::Sheet;
 ghost use mathlib.Core.Path.{_≡_};
@@ -47,18 +49,19 @@ fn judged(t: Item, given: &[u8], wanted: &[u8]) -> bool {
 }
 
 // 1 for what is right.
-pub(crate) fn one(right: bool) -> u8 {
+fn one(right: bool) -> u8 {
     if right { 1 } else { 0 }
 }
 
 // The register that the item names, or 1 if its call gave what it must.
-pub(crate) fn value_of(s: Sheet, register: u8, desk: &[u8]) -> u8 {
+pub(crate) fn value_of(c: Chip, s: Sheet, desk: &[u8]) -> u8 {
     if s.item.kind == items::REGISTER {
-        return register;
+        return script::register(c, s.item.x, s.item.y);
     }
-    one(judged(
-        s.item,
-        items::part(desk, 0, s.given),
-        items::part(desk, s.given, s.wanted),
-    ))
+    let given = items::part(desk, 0, s.given);
+    let wanted = items::part(desk, s.given, s.wanted);
+    if (s.item.kind == items::LIST) | (s.item.kind == items::SHARED_LIST) {
+        return one(listed(c, s.item, given, wanted));
+    }
+    one(judged(s.item, given, wanted))
 }

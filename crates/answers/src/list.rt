@@ -1,11 +1,7 @@
 // A list sent through the chip.
-use crate::calls::one;
-use channel::Answer;
 use chip::Chip;
-use chip::Outcome;
 use flags::Between;
 use items::Item;
-use items::Sheet;
 use station::Listed;
 ghost use mathlib.Core.Path.{_≡_};
 ghost use lib.ListN.{length};
@@ -37,22 +33,16 @@ fn list_is(t: Item, l: Listed, rows: &[usize], wanted: &[u8]) -> bool {
         & items::cells_are(rows, wanted)
 }
 
-// A list through the chip, with room for so many numbers of its rows as its item says; the value is 1 if it gave what it must.
-pub(crate) fn listed(c: Chip, s: Sheet, desk: &[u8]) -> Outcome {
-    let mut space = rows();
-    let rows: &mut [usize] = &mut space;
-    let room = s.item.room(rows.len());
-    let o = station::send_list(
-        c,
-        items::part(desk, 0, s.given),
-        &mut rows[0..room],
-        between_of(s.item),
-    );
+// A list through the chip gave what it must, in these rows.
+fn sent(c: Chip, t: Item, list: &[u8], wanted: &[u8], rows: &mut [usize]) -> bool {
+    let o = station::send_list(c, list, rows, between_of(t));
     let l = o.listed;
-    let v = one(list_is(s.item, l, rows, items::part(desk, s.given, s.wanted)));
-    let d = o.chip;
-    Outcome {
-        answer: Answer::Gave(v),
-        chip: d,
-    }
+    list_is(t, l, rows, wanted)
+}
+
+// With room for so many numbers of its rows as its item says.
+pub(crate) fn listed(c: Chip, t: Item, list: &[u8], wanted: &[u8]) -> bool {
+    let mut rows = rows();
+    let room = t.room(ROWS);
+    sent(c, t, list, wanted, &mut rows[0..room])
 }

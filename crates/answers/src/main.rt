@@ -5,11 +5,13 @@ mod calls;
 mod list;
 
 use crate::calls::value_of;
-use crate::list::listed;
 use channel::Answer;
 use chip::Chip;
 use chip::Outcome;
 use items::Sheet;
+ghost use mathlib.Core.Path.{_≡_};
+ghost use Prim.Native.Nat.{_-_, _≤_};
+ghost use lib.ListN.{length};
 
 // Room for all items.
 const INPUT: usize = 262144;
@@ -46,18 +48,28 @@ fn answered(s: Sheet, input: &[u8], w: Answer) -> Sheet {
     s.answered(w.number(), w.value())
 }
 
-// What an event answers; of any other item the value of its call, and the chip as it is.
+// What an event answers; of any other item the value of its call, and the chip as it is: no answer asks for the chip behind a list.
 fn turn(c: Chip, s: Sheet, desk: &[u8]) -> Outcome {
     if s.item.kind < items::REGISTER {
         return script::step(c, s.item.kind, s.item.x, s.item.y, s.item.z);
     }
-    if (s.item.kind == items::LIST) | (s.item.kind == items::SHARED_LIST) {
-        return listed(c, s, desk);
-    }
     Outcome {
-        answer: Answer::Gave(value_of(s, script::register(c, s.item.x, s.item.y), desk)),
+        answer: Answer::Gave(value_of(c, s, desk)),
         chip: c,
     }
+}
+
+// So many items may be left: none behind the last.
+fn rest(s: Sheet, left: u32) -> u32
+    ensures { λ r. ⌜ r ≤ left - 1 ⌝ }
+{
+    if s.item.kind == items::STOP {
+        return 0;
+    }
+    if left == 0 {
+        return 0;
+    }
+    left - 1
 }
 
 fn play(input: &[u8], desk: &mut [u8]) {
@@ -66,25 +78,34 @@ fn play(input: &[u8], desk: &mut [u8]) {
     let mut left = ITEMS;
     while 0 < left {
         s = items::dealt(s, input, desk);
-        if s.item.kind == items::STOP {
-            tell(s);
-            return;
-        }
         let o = turn(c, s, desk);
+        c = o.chip;
         let w = o.answer;
         s = answered(s, input, w);
-        c = o.chip;
-        left = left - 1;
+        left = rest(s, left);
     }
+    tell(s);
+}
+
+fn input() -> [u8; INPUT]
+    ensures { λ r. ⌜ 262144 ≡ length r ⌝ }
+{
+    [0; INPUT]
+}
+
+fn desk() -> [u8; DESK]
+    ensures { λ r. ⌜ 65600 ≡ length r ⌝ }
+{
+    [0; DESK]
 }
 
 fn main() {
-    let mut input = [0u8; INPUT];
+    let mut input = input();
     let n = io::read_full(0, &mut input);
     if n == INPUT {
         io::write_all(1, b"BAD too many items\n");
         return;
     }
-    let mut desk = [0u8; DESK];
+    let mut desk = desk();
     play(&input[..n], &mut desk);
 }

@@ -24,6 +24,26 @@ loop-holds c = search needs
 dealt-requires : tie.Need-dealt-requires Inv-loop μ-loop
 dealt-requires c κs = search needs
 
+turn-requires : tie.Need-turn-requires Inv-loop μ-loop
+turn-requires c κs = search needs
+
+answered-requires : tie.Need-answered-requires Inv-loop μ-loop
+answered-requires c κs = search needs
+
+rest-requires : tie.Need-rest-requires Inv-loop μ-loop
+rest-requires c κs = search needs
+
+loop-less : tie.Need-loop-less Inv-loop μ-loop
+loop-less c =
+    let t = c .before .before .before .before .before .before .before .before .before in
+    omega (arith, c .rest .ensures, t .loop-test .taken)
+
+loop-again : tie.Need-loop-again Inv-loop μ-loop
+loop-again c =
+    let t = c .before .before .before .before .before .before .before .before .before in
+    c .before .before .before .before .before .before .before .dealt .kept .1 .1 .0
+    ∙ t .before .loop .inv
+
 tell-requires : tie.Need-tell-requires Inv-loop μ-loop
 tell-requires c κs = search needs
 
@@ -32,29 +52,6 @@ same-length c = search needs
 
 returns : tie.Need-returns Inv-loop μ-loop
 returns c = search needs
-
-turn-requires : tie.Need-turn-requires Inv-loop μ-loop
-turn-requires c κs = search needs
-
-answered-requires : tie.Need-answered-requires Inv-loop μ-loop
-answered-requires c κs = search needs
-
-sub-left : tie.Need-sub-left Inv-loop μ-loop
-sub-left c = omega (arith, c .before .before .before .before .before .before .before .before .before .before .loop-test .taken)
-
-loop-less : tie.Need-loop-less Inv-loop μ-loop
-loop-less c = omega (arith, c .before .before .before .before .before .before .before .before .before .before .loop-test .taken)
-
-loop-again : tie.Need-loop-again Inv-loop μ-loop
-loop-again c =
-    let l = c .before .before .before .before .before .before .before .before .before .before .before .loop in
-    c .before .before .before .before .before .before .before .before .dealt .kept .1 .1 .0 ∙ l .inv
-
-same-length-2 : tie.Need-same-length-2 Inv-loop μ-loop
-same-length-2 c = search needs
-
-returns-2 : tie.Need-returns-2 Inv-loop μ-loop
-returns-2 c = search needs
 
 pub play-spec : {M : Type 1} → statement M
 play-spec =
@@ -66,13 +63,11 @@ play-spec =
     start-requires
     loop-holds
     dealt-requires
-    tell-requires
-    same-length
-    returns
     turn-requires
     answered-requires
-    sub-left
+    rest-requires
     loop-less
     loop-again
-    same-length-2
-    returns-2)
+    tell-requires
+    same-length
+    returns)
