@@ -16,7 +16,7 @@ ghost use Rattle.sender.specs.Sender.{tick};
 ghost use Rattle.settings.specs.Settings.{sendingOf};
 ghost use Rattle.channel.specs.declared.Answer.the-variants.{Done};
 ghost use Rattle.channel.specs.Channel.{answered};
-ghost use Rattle.channel.specs.Events.{dataWritten, dataRead, afterTick, transmitTick, queued, heardBy, receiveTick, linesSet};
+ghost use Rattle.channel.specs.Events.{dataWritten, dataRead, afterTick, transmitTick, queued, heardBy, receiveTick, linesIn};
 
 impl Channel {
     // A data write.
@@ -101,28 +101,44 @@ impl Channel {
     }
 
     // A receive tick.
-    pub fn receive_tick(self, bit: bool) -> Channel
-        ensures { λ r. ⌜ r ≡ receiveTick self bit ⌝ }
+    pub fn receive_tick(self, bit: bool) -> Answered
+        ensures { λ r. ⌜ r ≡ answered Done (receiveTick self bit) ⌝ }
     {
         let h = self.receiver
             .hear(self.registers.receiving(self.lines), bit);
         // hunt and D7 alone can move the status
         if h.receiver.shows_as(self.receiver) {
-            return self.heard_by(h);
+            return Answered {
+                answer: Answer::Done,
+                channel: self.heard_by(h),
+            };
         }
-        self.heard_by(h).settled(self)
-    }
-
-    // DCD and CTS take their values.
-    pub fn set_lines(self, dcd: bool, cts: bool) -> Answered
-        ensures { λ r. ⌜ r ≡ answered Done (linesSet self dcd cts) ⌝ }
-    {
-        let l = Lines { dcd, cts };
-        let mut c = self;
-        c.lines = l;
         Answered {
             answer: Answer::Done,
-            channel: c.settled(self),
+            channel: self.heard_by(h).settled(self),
+        }
+    }
+
+    // DCD and CTS take their values; refused where one is no level.
+    pub fn set_lines(mut self, dcd: u8, cts: u8) -> Answered
+        ensures { λ r. ⌜ r ≡ linesIn self dcd cts ⌝ }
+    {
+        if (2 <= dcd) | (2 <= cts) {
+            return Answered {
+                answer: Answer::Refused(Refusal::Level),
+                channel: self,
+            };
+        }
+        let l = Lines {
+            dcd: dcd == 1,
+            cts: cts == 1,
+        };
+        let was = self.live();
+        self.lines = l;
+        self.status = self.status.noticed(was, self.live());
+        Answered {
+            answer: Answer::Done,
+            channel: self,
         }
     }
 }

@@ -10,11 +10,12 @@ use settings::Lines;
 use settings::command_in;
 use vector::Acked;
 ghost use mathlib.Core.Path.{_≡_};
+ghost use Rattle.common.specs.declared.Refusal.the-variants.{Channel as NoChannel};
 ghost use Rattle.channel.specs.declared.Answer.the-variants.{Done};
 ghost use Rattle.channel.specs.Channel.{answered};
 ghost use Rattle.channel.specs.Events.{transmitTick, receiveTick};
 ghost use Rattle.chip.specs.Interrupts.{inService};
-ghost use Rattle.chip.specs.Chip.{refused, inA, inB, hardReset, serviceBy, controlWrite, controlReadCall, dataWriteCall};
+ghost use Rattle.chip.specs.Chip.{refused, inA, inB, hardReset, serviceBy, controlWriteA, controlWrite, controlReadCall, dataWriteCall};
 ghost use Rattle.chip.specs.Chip.{dataReadCall, transmitCall, receiveCall, linesCall};
 
 pub struct Chip {
@@ -66,6 +67,13 @@ impl Chip {
         }
     }
 
+    // There is no such channel.
+    fn no_channel(self) -> Outcome
+        ensures { λ r. ⌜ r ≡ refused self NoChannel ⌝ }
+    {
+        self.refused(Refusal::Channel)
+    }
+
     // A's answer, with that channel put back.
     fn in_a(mut self, x: Answered) -> Outcome
         ensures { λ r. ⌜ r ≡ inA self x ⌝ }
@@ -101,18 +109,25 @@ impl Chip {
         self
     }
 
+    // A's control write: command 7 first.
+    fn control_write_a(self, v: u8) -> Outcome
+        ensures { λ r. ⌜ r ≡ controlWriteA self v ⌝ }
+    {
+        let c = self.ending(v);
+        c.in_a(control::control_write(c.a, Side::A, v))
+    }
+
     // Control write.
     pub fn control_write(self, ch: u8, v: u8) -> Outcome
         ensures { λ r. ⌜ r ≡ controlWrite self ch v ⌝ }
     {
         if ch == 0 {
-            let c = self.ending(v);
-            return c.in_a(control::control_write(c.a, Side::A, v));
+            return self.control_write_a(v);
         }
         if ch == 1 {
             return self.in_b(control::control_write(self.b, Side::B, v));
         }
-        self.refused(Refusal::Channel)
+        self.no_channel()
     }
 
     // Control read.
@@ -125,7 +140,7 @@ impl Chip {
         if ch == 1 {
             return self.in_b(reading::control_read(self.b, false, self.rr2()));
         }
-        self.refused(Refusal::Channel)
+        self.no_channel()
     }
 
     // Data write.
@@ -138,7 +153,7 @@ impl Chip {
         if ch == 1 {
             return self.in_b(self.b.data_write(v));
         }
-        self.refused(Refusal::Channel)
+        self.no_channel()
     }
 
     // Data read.
@@ -151,7 +166,7 @@ impl Chip {
         if ch == 1 {
             return self.in_b(self.b.data_read());
         }
-        self.refused(Refusal::Channel)
+        self.no_channel()
     }
 
     // A's transmit tick, and B's. Most lie inside a byte: these are done here, with no further call (bench/README.md).
@@ -189,7 +204,7 @@ impl Chip {
         if ch == 1 {
             return self.transmit_b();
         }
-        self.refused(Refusal::Channel)
+        self.no_channel()
     }
 
     // A's receive tick whatever its bit does, and B's; the channel is copied here, as with sending.
@@ -197,20 +212,14 @@ impl Chip {
         ensures { λ r. ⌜ r ≡ inA self (answered Done (receiveTick (self .a) bit)) ⌝ }
     {
         let a = self.a;
-        self.in_a(Answered {
-            answer: Answer::Done,
-            channel: a.receive_tick(bit),
-        })
+        self.in_a(a.receive_tick(bit))
     }
 
     fn heard_b(self, bit: bool) -> Outcome
         ensures { λ r. ⌜ r ≡ inB self (answered Done (receiveTick (self .b) bit)) ⌝ }
     {
         let b = self.b;
-        self.in_b(Answered {
-            answer: Answer::Done,
-            channel: b.receive_tick(bit),
-        })
+        self.in_b(b.receive_tick(bit))
     }
 
     // A's receive tick, and B's; most lie inside a character.
@@ -243,7 +252,7 @@ impl Chip {
         ensures { λ r. ⌜ r ≡ receiveCall self ch bit ⌝ }
     {
         if 2 <= ch {
-            return self.refused(Refusal::Channel);
+            return self.no_channel();
         }
         if 2 <= bit {
             return self.refused(Refusal::Level);
@@ -258,15 +267,12 @@ impl Chip {
     pub fn set_lines(self, ch: u8, dcd: u8, cts: u8) -> Outcome
         ensures { λ r. ⌜ r ≡ linesCall self ch dcd cts ⌝ }
     {
-        if 2 <= ch {
-            return self.refused(Refusal::Channel);
-        }
-        if (2 <= dcd) | (2 <= cts) {
-            return self.refused(Refusal::Level);
-        }
         if ch == 0 {
-            return self.in_a(self.a.set_lines(dcd == 1, cts == 1));
+            return self.in_a(self.a.set_lines(dcd, cts));
         }
-        self.in_b(self.b.set_lines(dcd == 1, cts == 1))
+        if ch == 1 {
+            return self.in_b(self.b.set_lines(dcd, cts));
+        }
+        self.no_channel()
     }
 }

@@ -30,12 +30,12 @@ returns-2 : tie.Need-returns-2
 unfolding controlReadCall
 returns-2 c = simp (tests, c .in-b .ensures, c .before .before .before .if2 .taken, c .before .before .before .before .if1 .left, c .before .control-read2 .ensures, c .before .before .rr2 .ensures)
 
-refused-requires : tie.Need-refused-requires
-refused-requires c κs = search needs
+no-channel-requires : tie.Need-no-channel-requires
+no-channel-requires c κs = search needs
 
 returns-3 : tie.Need-returns-3
 unfolding controlReadCall
-returns-3 c = simp (tests, c .before .if2 .left, c .before .before .if1 .left) (c .refused .ensures)
+returns-3 c = simp (tests, c .before .if2 .left, c .before .before .if1 .left) (c .no-channel .ensures)
 
 pub control-read-spec : {M : Type 1} → statement M
 control-read-spec =
@@ -49,5 +49,5 @@ control-read-spec =
     control-read-requires-2
     in-b-requires
     returns-2
-    refused-requires
+    no-channel-requires
     returns-3)

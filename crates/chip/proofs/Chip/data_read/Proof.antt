@@ -24,12 +24,12 @@ returns-2 : tie.Need-returns-2
 unfolding dataReadCall
 returns-2 c = simp (tests, c .in-b .ensures, c .before .before .if2 .taken, c .before .before .before .if1 .left, c .before .data-read2 .ensures)
 
-refused-requires : tie.Need-refused-requires
-refused-requires c κs = search needs
+no-channel-requires : tie.Need-no-channel-requires
+no-channel-requires c κs = search needs
 
 returns-3 : tie.Need-returns-3
 unfolding dataReadCall
-returns-3 c = simp (tests, c .before .if2 .left, c .before .before .if1 .left) (c .refused .ensures)
+returns-3 c = simp (tests, c .before .if2 .left, c .before .before .if1 .left) (c .no-channel .ensures)
 
 pub data-read-spec : {M : Type 1} → statement M
 data-read-spec =
@@ -41,5 +41,5 @@ data-read-spec =
     data-read-requires-2
     in-b-requires
     returns-2
-    refused-requires
+    no-channel-requires
     returns-3)

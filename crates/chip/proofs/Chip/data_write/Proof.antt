@@ -24,12 +24,12 @@ returns-2 : tie.Need-returns-2
 unfolding dataWriteCall
 returns-2 c = simp (tests, c .in-b .ensures, c .before .before .if2 .taken, c .before .before .before .if1 .left, c .before .data-write2 .ensures)
 
-refused-requires : tie.Need-refused-requires
-refused-requires c κs = search needs
+no-channel-requires : tie.Need-no-channel-requires
+no-channel-requires c κs = search needs
 
 returns-3 : tie.Need-returns-3
 unfolding dataWriteCall
-returns-3 c = simp (tests, c .before .if2 .left, c .before .before .if1 .left) (c .refused .ensures)
+returns-3 c = simp (tests, c .before .if2 .left, c .before .before .if1 .left) (c .no-channel .ensures)
 
 pub data-write-spec : {M : Type 1} → statement M
 data-write-spec =
@@ -41,5 +41,5 @@ data-write-spec =
     data-write-requires-2
     in-b-requires
     returns-2
-    refused-requires
+    no-channel-requires
     returns-3)

@@ -1,4 +1,6 @@
--- `chip::Chip::heard_a` meets its contract: the channel's tick, put back. Assumes nothing.
+-- `chip::Chip::heard_a` meets its contract: each return by the facts on its way. Assumes nothing.
+use Rattle.chip.proofs.Branch.{tests}
+use Rattle.channel.specs.Events.{receiveTick}
 use borrow.Author.Needs.{needs}
 use Rattle.chip.proofs.Chip.heard_a.Statement.{statement}
 use Rattle.chip.proofs.Chip.heard_a.Tie as tie
@@ -10,7 +12,8 @@ in-a-requires : tie.Need-in-a-requires
 in-a-requires c κs = search needs
 
 returns : tie.Need-returns
-returns c = simp (c .in-a .ensures, ← c .before .receive-tick .ensures)
+unfolding receiveTick
+returns c = simp (tests, c .in-a .ensures, c .before .receive-tick .ensures)
 
 pub heard-a-spec : {M : Type 1} → statement M
 heard-a-spec = tie.close (tie.spec receive-tick-requires in-a-requires returns)

@@ -6,21 +6,21 @@ use borrow.Author.Needs.{needs}
 use Rattle.chip.proofs.Chip.receive.Statement.{statement}
 use Rattle.chip.proofs.Chip.receive.Tie as tie
 
-refused-requires : tie.Need-refused-requires
-refused-requires c κs = search needs
+no-channel-requires : tie.Need-no-channel-requires
+no-channel-requires c κs = search needs
 
 returns : tie.Need-returns
 unfolding receiveCall
-returns c = simp (tests, not-a (c .before .if1 .taken), not-b (c .before .if1 .taken)) (c .refused .ensures)
+returns c = simp (tests, not-a (c .before .if1 .taken), not-b (c .before .if1 .taken)) (c .no-channel .ensures)
 
-refused-requires-2 : tie.Need-refused-requires-2
-refused-requires-2 c κs = search needs
+refused-requires : tie.Need-refused-requires
+refused-requires c κs = search needs
 
 returns-2 : tie.Need-returns-2
 unfolding receiveCall
 returns-2 c =
     let a = c .before .before .before .args in
-    simp (tests, c .before .if2 .taken) (c .refused2 .ensures ∙ sym (alike (a .self) (a .ch) (c .before .before .if1 .left)))
+    simp (tests, c .before .if2 .taken) (c .refused .ensures ∙ sym (alike (a .self) (a .ch) (c .before .before .if1 .left)))
 
 receive-a-requires : tie.Need-receive-a-requires
 receive-a-requires c κs = search needs
@@ -40,9 +40,9 @@ pub receive-spec : {M : Type 1} → statement M
 receive-spec =
     tie.close
     (tie.spec
-    refused-requires
+    no-channel-requires
     returns
-    refused-requires-2
+    refused-requires
     returns-2
     receive-a-requires
     returns-3

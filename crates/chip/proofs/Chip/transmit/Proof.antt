@@ -19,12 +19,12 @@ returns-2 : tie.Need-returns-2
 unfolding transmitCall
 returns-2 c = simp (tests, c .before .if2 .taken, c .before .before .if1 .left) (c .transmit-b .ensures)
 
-refused-requires : tie.Need-refused-requires
-refused-requires c κs = search needs
+no-channel-requires : tie.Need-no-channel-requires
+no-channel-requires c κs = search needs
 
 returns-3 : tie.Need-returns-3
 unfolding transmitCall
-returns-3 c = simp (tests, c .before .if2 .left, c .before .before .if1 .left) (c .refused .ensures)
+returns-3 c = simp (tests, c .before .if2 .left, c .before .before .if1 .left) (c .no-channel .ensures)
 
 pub transmit-spec : {M : Type 1} → statement M
-transmit-spec = tie.close (tie.spec transmit-a-requires returns transmit-b-requires returns-2 refused-requires returns-3)
+transmit-spec = tie.close (tie.spec transmit-a-requires returns transmit-b-requires returns-2 no-channel-requires returns-3)
