@@ -6,19 +6,19 @@ use Rattle.events.proofs.next.Statement.{statement}
 use Rattle.events.proofs.next.Tie as tie
 
 found-at-requires : tie.Need-found-at-requires
-found-at-requires c κs = search needs
+found-at-requires c κs = tt
 
 enum-known-f : tie.Need-enum-known-f
 enum-known-f c = search needs
 
 played-requires : tie.Need-played-requires
-played-requires c κs = search needs
+played-requires c κs = tt
 
 enum-known-f-2 : tie.Need-enum-known-f-2
 enum-known-f-2 c = search needs
 
 last-line-requires : tie.Need-last-line-requires
-last-line-requires c κs = search needs
+last-line-requires c κs = tt
 
 returns : tie.Need-returns
 unfolding next

@@ -1,15 +1,14 @@
 -- `events::played` meets its contract: each return by the facts on its way. Assumes nothing.
 use Rattle.events.proofs.Branch.{tests}
 use Rattle.events.specs.Run.{played}
-use borrow.Author.Needs.{needs}
 use Rattle.events.proofs.played.Statement.{statement}
 use Rattle.events.proofs.played.Tie as tie
 
 step-requires : tie.Need-step-requires
-step-requires c κs = search needs
+step-requires c κs = tt
 
 told-line-requires : tie.Need-told-line-requires
-told-line-requires c κs = search needs
+told-line-requires c κs = tt
 
 returns : tie.Need-returns
 unfolding played

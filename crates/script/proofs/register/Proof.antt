@@ -2,21 +2,20 @@
 use Rattle.script.proofs.Branch.{tests}
 use Rattle.script.specs.Shown.{registerOf}
 use Rattle.script.specs.Shown.{pointedAt}
-use borrow.Author.Needs.{needs}
 use Rattle.script.proofs.register.Statement.{statement}
 use Rattle.script.proofs.register.Tie as tie
 
 control-read-requires : tie.Need-control-read-requires
-control-read-requires c κs = search needs
+control-read-requires c κs = tt
 
 control-write-requires : tie.Need-control-write-requires
-control-write-requires c κs = search needs
+control-write-requires c κs = tt
 
 control-read-requires-2 : tie.Need-control-read-requires-2
-control-read-requires-2 c κs = search needs
+control-read-requires-2 c κs = tt
 
 value-requires : tie.Need-value-requires
-value-requires c κs = search needs
+value-requires c κs = tt
 
 returns : tie.Need-returns
 unfolding registerOf pointedAt

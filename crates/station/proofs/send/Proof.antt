@@ -6,12 +6,11 @@ use denote.Ref.{now}
 use Rattle.line.specs.Laws.Line.{fits-few}
 use Rattle.station.specs.Fed.{feeds}
 use Rattle.station.specs.Station.{noteSent, sendOf}
-use borrow.Author.Needs.{needs}
 use Rattle.station.proofs.send.Statement.{statement}
 use Rattle.station.proofs.send.Tie as tie
 
 note-fits-requires : tie.Need-note-fits-requires
-note-fits-requires c κs = search needs
+note-fits-requires c κs = tt
 
 shared-slice-read-open-frame : tie.Need-shared-slice-read-open-frame
 shared-slice-read-open-frame c =
@@ -20,14 +19,14 @@ shared-slice-read-open-frame c =
     omega (arith, fits-few (length (now (s .args .note))) fits .0)
 
 open-frame-requires : tie.Need-open-frame-requires
-open-frame-requires c κs = search needs
+open-frame-requires c κs = tt
 
 feed-rest-requires : tie.Need-feed-rest-requires
 feed-rest-requires c κs =
     sym (c .before .before .before .note-fits .ensures) ∙ c .before .before .if1 .taken
 
 chip-with-requires : tie.Need-chip-with-requires
-chip-with-requires c κs = search needs
+chip-with-requires c κs = tt
 
 gone-requires : tie.Need-gone-requires
 gone-requires c κs =

@@ -18,7 +18,6 @@ use Rattle.station.specs.Station.{listSent}
 use Rattle.station.specs.Walk.{atFirst, walkedOn, listedBy}
 use Rattle.station.specs.Laws.Walk.{WalkedList, Loop, loop-starts, loop-turns, loop-ends}
 use Rattle.station.specs.Laws.Walk.{next, room, notes-small, at-small, sum-small}
-use borrow.Author.Needs.{needs}
 use Rattle.station.proofs.send_list.Statement.{statement}
 use Rattle.station.proofs.send_list.Tie as tie
 
@@ -29,10 +28,10 @@ abbrev μ-loop : tie.MeasureT-loop
 μ-loop c₀ list rows₀ between s w₀ c rows w = w .all - w .notes
 
 scan-requires : tie.Need-scan-requires Inv-loop μ-loop
-scan-requires c κs = search needs
+scan-requires c κs = tt
 
 start-requires : tie.Need-start-requires Inv-loop μ-loop
-start-requires c κs = search needs
+start-requires c κs = tt
 
 loop-holds : tie.Need-loop-holds Inv-loop μ-loop
 loop-holds c =
@@ -42,7 +41,7 @@ loop-holds c =
     rw (c .start .ensures) (loop-starts (a .between) (a .c) rows list (c .before .scan .result) (c .before .scan .ensures))
 
 note-at-requires : tie.Need-note-at-requires Inv-loop μ-loop
-note-at-requires c κs = search needs
+note-at-requires c κs = tt
 
 open-next-requires : tie.Need-open-next-requires Inv-loop μ-loop
 open-next-requires c κs =
@@ -55,7 +54,7 @@ feed-rest-requires : tie.Need-feed-rest-requires Inv-loop μ-loop
 feed-rest-requires c κs = open-next-requires (c .before) κs
 
 chip-with-requires : tie.Need-chip-with-requires Inv-loop μ-loop
-chip-with-requires c κs = search needs
+chip-with-requires c κs = tt
 
 on-requires : tie.Need-on-requires Inv-loop μ-loop
 on-requires c κs =
@@ -108,7 +107,7 @@ loop-again c =
     (on .1 ∙ ap (λ (t : List ℕ). toldAt (w .told) (l .rows) (4 * w .notes) (rowOf (w .notes + 1) t)) text)
 
 listed-requires : tie.Need-listed-requires Inv-loop μ-loop
-listed-requires c κs = search needs
+listed-requires c κs = tt
 
 same-length : tie.Need-same-length Inv-loop μ-loop
 same-length c = c .before .before .before .loop .inv .size

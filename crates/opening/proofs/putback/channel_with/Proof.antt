@@ -1,16 +1,15 @@
 -- `opening::putback::channel_with` meets its contract. Assumes nothing.
-use borrow.Author.Needs.{needs}
 use Rattle.opening.proofs.putback.channel_with.Statement.{statement}
 use Rattle.opening.proofs.putback.channel_with.Tie as tie
 
 live-requires : tie.Need-live-requires
-live-requires c κs = search needs
+live-requires c κs = tt
 
 with-framer-requires : tie.Need-with-framer-requires
-with-framer-requires c κs = search needs
+with-framer-requires c κs = tt
 
 noticed-requires : tie.Need-noticed-requires
-noticed-requires c κs = search needs
+noticed-requires c κs = tt
 
 returns : tie.Need-returns
 returns c =

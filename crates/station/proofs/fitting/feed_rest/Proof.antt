@@ -22,7 +22,7 @@ part-feed-frame-end : tie.Need-part-feed-frame-end
 part-feed-frame-end c = search needs
 
 feed-frame-requires : tie.Need-feed-frame-requires
-feed-frame-requires c κs = search needs
+feed-frame-requires c κs = tt
 
 returns : tie.Need-returns
 returns c =

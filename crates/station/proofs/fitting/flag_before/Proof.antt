@@ -1,7 +1,6 @@
 -- `station::fitting::flag_before` meets its contract. Assumes nothing.
 use Rattle.common.specs.Tools.{tests}
 use Rattle.station.specs.Walk.{flagBefore}
-use borrow.Author.Needs.{needs}
 use Rattle.station.proofs.fitting.flag_before.Statement.{statement}
 use Rattle.station.proofs.fitting.flag_before.Tie as tie
 
@@ -10,7 +9,7 @@ unfolding flagBefore
 returns c = simp (c .if1 .taken)
 
 own-flag-requires : tie.Need-own-flag-requires
-own-flag-requires c κs = search needs
+own-flag-requires c κs = tt
 
 returns-2 : tie.Need-returns-2
 unfolding flagBefore

@@ -9,15 +9,14 @@ use Rattle.chip.specs.declared.Chip.{Chip}
 use Rattle.drive.specs.Drive.{driven, frameOpened}
 use Rattle.line.specs.Laws.Line.{fits-few}
 use Rattle.station.specs.Fed.{flag-gone}
-use borrow.Author.Needs.{needs}
 use Rattle.station.proofs.fitting.open_next.Statement.{statement}
 use Rattle.station.proofs.fitting.open_next.Tie as tie
 
 flag-before-requires : tie.Need-flag-before-requires
-flag-before-requires c κs = search needs
+flag-before-requires c κs = tt
 
 ticked-requires : tie.Need-ticked-requires
-ticked-requires c κs = search needs
+ticked-requires c κs = tt
 
 shared-slice-read-open-frame : tie.Need-shared-slice-read-open-frame
 shared-slice-read-open-frame c =
@@ -25,7 +24,7 @@ shared-slice-read-open-frame c =
     omega (arith, fits-few (length (now (s .args .note))) (s .pre) .0)
 
 open-frame-requires : tie.Need-open-frame-requires
-open-frame-requires c κs = search needs
+open-frame-requires c κs = tt
 
 returns : tie.Need-returns
 returns c =

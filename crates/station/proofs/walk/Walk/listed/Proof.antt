@@ -9,7 +9,7 @@ enum-told : tie.Need-enum-told
 enum-told c = search needs
 
 in-all-requires : tie.Need-in-all-requires
-in-all-requires c κs = search needs
+in-all-requires c κs = tt
 
 returns : tie.Need-returns
 returns c =

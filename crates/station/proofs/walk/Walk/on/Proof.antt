@@ -17,7 +17,7 @@ gone-requires : tie.Need-gone-requires
 gone-requires c κs = let s = c .before .before in (s .pre .0, s .pre .1 .0)
 
 ticks-requires : tie.Need-ticks-requires
-ticks-requires c κs = search needs
+ticks-requires c κs = tt
 
 mul-j : tie.Need-mul-j
 mul-j c = let s = c .before .before .before .before .before in omega (arith, s .pre .1 .1 .1 .0)
@@ -44,7 +44,7 @@ add-self-4 c =
     omega (arith, ticks, ticks-few (now (s .args .note)) (s .pre .0), s .pre .1 .1 .1 .1 .1)
 
 zeros-requires : tie.Need-zeros-requires
-zeros-requires c κs = search needs
+zeros-requires c κs = tt
 
 put-row-requires : tie.Need-put-row-requires
 put-row-requires c κs =
