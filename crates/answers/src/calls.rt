@@ -1,6 +1,4 @@
-// The calls that leave the chip as it is.
-use crate::list::listed;
-use chip::Chip;
+// The calls that need no chip.
 use items::Item;
 use items::Sheet;
 ghost use mathlib.Core.Path.{_≡_};
@@ -21,10 +19,10 @@ fn page() -> [u8; PAGE]
 // A line is written into a part of the page, and the whole page is then as it must be.
 fn written(t: Item, note: &[u8], wanted: &[u8]) -> bool {
     let mut space = page();
-    let out: &mut [u8] = &mut space;
-    let room = t.room(out.len());
-    let c = writer::write_line(note, &mut out[0..room], t.place());
-    t.is(c.number(), c.zeros()) & check::same(out, wanted)
+    let page: &mut [u8] = &mut space;
+    let room = t.room(page.len());
+    let c = writer::write_line(note, &mut page[0..room], t.place());
+    t.is(c.number(), c.zeros()) & check::same(page, wanted)
 }
 
 // A call gave what it must.
@@ -48,20 +46,14 @@ fn judged(t: Item, given: &[u8], wanted: &[u8]) -> bool {
     }
 }
 
-// 1 for what is right.
-fn one(right: bool) -> u8 {
-    if right { 1 } else { 0 }
-}
-
-// The register that the item names, or 1 if its call gave what it must.
-pub(crate) fn value_of(c: Chip, s: Sheet, desk: &[u8]) -> u8 {
+// What the register holds if the item names it, or 1 if its call gave what it must.
+pub(crate) fn value_of(s: Sheet, register: u8, desk: &[u8]) -> u8 {
     if s.item.kind == items::REGISTER {
-        return script::register(c, s.item.x, s.item.y);
+        return register;
     }
-    let given = items::part(desk, 0, s.given);
-    let wanted = items::part(desk, s.given, s.wanted);
-    if (s.item.kind == items::LIST) | (s.item.kind == items::SHARED_LIST) {
-        return one(listed(c, s.item, given, wanted));
-    }
-    one(judged(s.item, given, wanted))
+    judged(
+        s.item,
+        items::part(desk, 0, s.given),
+        items::part(desk, s.given, s.wanted),
+    ) as u8
 }

@@ -2,6 +2,7 @@
 use chip::Chip;
 use flags::Between;
 use items::Item;
+use items::Sheet;
 use station::Listed;
 ghost use mathlib.Core.Path.{_≡_};
 ghost use lib.ListN.{length};
@@ -33,16 +34,19 @@ fn list_is(t: Item, l: Listed, rows: &[usize], wanted: &[u8]) -> bool {
         & items::cells_are(rows, wanted)
 }
 
-// A list through the chip gave what it must, in these rows.
-fn sent(c: Chip, t: Item, list: &[u8], wanted: &[u8], rows: &mut [usize]) -> bool {
-    let o = station::send_list(c, list, rows, between_of(t));
-    let l = o.listed;
-    list_is(t, l, rows, wanted)
-}
-
-// With room for so many numbers of its rows as its item says.
-pub(crate) fn listed(c: Chip, t: Item, list: &[u8], wanted: &[u8]) -> bool {
-    let mut rows = rows();
-    let room = t.room(ROWS);
-    sent(c, t, list, wanted, &mut rows[0..room])
+// A list through the chip gave what it must, with room for so many numbers of its rows as its item says.
+pub(crate) fn listed(c: Chip, s: Sheet, desk: &[u8]) -> bool {
+    let mut space = rows();
+    let rows: &mut [usize] = &mut space;
+    let room = s.item.room(rows.len());
+    let l = {
+        let o = station::send_list(
+            c,
+            items::part(desk, 0, s.given),
+            &mut rows[0..room],
+            between_of(s.item),
+        );
+        o.listed
+    };
+    list_is(s.item, l, rows, items::part(desk, s.given, s.wanted))
 }

@@ -5,12 +5,12 @@ mod calls;
 mod list;
 
 use crate::calls::value_of;
+use crate::list::listed;
 use channel::Answer;
 use chip::Chip;
 use chip::Outcome;
 use items::Sheet;
 ghost use mathlib.Core.Path.{_≡_};
-ghost use Prim.Native.Nat.{_-_, _≤_};
 ghost use lib.ListN.{length};
 
 // Room for all items.
@@ -22,28 +22,15 @@ const DESK: usize = 65600;
 // More items than there can be.
 const ITEMS: u32 = 1000000;
 
-// How many cases were right.
-fn tell(s: Sheet) {
-    io::print_decimal(1, s.good);
-    io::write_all(1, b" of ");
-    io::print_decimal(1, s.cases);
-    io::write_all(1, b" right\n");
-}
-
-// The line of a case; its name ends the line.
-fn say(right: bool, name: &[u8]) {
-    if right {
-        io::write_all(1, b"ok  ");
-    } else {
-        io::write_all(1, b"BAD ");
-    }
-    io::write_all(1, name);
-}
-
-// The item has been played; at the end of a case its line.
+// The item has been played; at the end of a case its line, which its name ends.
 fn answered(s: Sheet, input: &[u8], w: Answer) -> Sheet {
     if s.item.kind == items::NAME {
-        say(s.right, items::part(input, s.item.start, s.item.behind));
+        if s.right {
+            io::write_all(1, b"ok  ");
+        } else {
+            io::write_all(1, b"BAD ");
+        }
+        io::write_all(1, items::part(input, s.item.start, s.item.behind));
     }
     s.answered(w.number(), w.value())
 }
@@ -53,38 +40,37 @@ fn turn(c: Chip, s: Sheet, desk: &[u8]) -> Outcome {
     if s.item.kind < items::REGISTER {
         return script::step(c, s.item.kind, s.item.x, s.item.y, s.item.z);
     }
+    if (s.item.kind == items::LIST) | (s.item.kind == items::SHARED_LIST) {
+        return Outcome {
+            answer: Answer::Gave(listed(c, s, desk) as u8),
+            chip: c,
+        };
+    }
     Outcome {
-        answer: Answer::Gave(value_of(c, s, desk)),
+        answer: Answer::Gave(value_of(s, script::register(c, s.item.x, s.item.y), desk)),
         chip: c,
     }
 }
 
-// So many items may be left: none behind the last.
-fn rest(s: Sheet, left: u32) -> u32
-    ensures { λ r. ⌜ r ≤ left - 1 ⌝ }
-{
-    if s.item.kind == items::STOP {
-        return 0;
-    }
-    if left == 0 {
-        return 0;
-    }
-    left - 1
-}
-
-fn play(input: &[u8], desk: &mut [u8]) {
-    let mut c = Chip::reset();
+// All items are played, one after another.
+fn play(input: &[u8], desk: &mut [u8]) -> Sheet {
+    let mut o = Outcome {
+        answer: Answer::Done,
+        chip: Chip::reset(),
+    };
     let mut s = Sheet::start();
     let mut left = ITEMS;
     while 0 < left {
         s = items::dealt(s, input, desk);
-        let o = turn(c, s, desk);
-        c = o.chip;
+        if s.item.kind == items::STOP {
+            return s;
+        }
+        o = turn(o.chip, s, desk);
         let w = o.answer;
         s = answered(s, input, w);
-        left = rest(s, left);
+        left = left - 1;
     }
-    tell(s);
+    s
 }
 
 fn input() -> [u8; INPUT]
@@ -99,13 +85,22 @@ fn desk() -> [u8; DESK]
     [0; DESK]
 }
 
-fn main() {
-    let mut input = input();
-    let n = io::read_full(0, &mut input);
-    if n == INPUT {
+// The items are read and played, and the last line told.
+fn run(input: &mut [u8], desk: &mut [u8]) {
+    let n = io::read_full(0, input);
+    if n == input.len() {
         io::write_all(1, b"BAD too many items\n");
         return;
     }
+    let s = play(&input[..n], desk);
+    io::print_decimal(1, s.good);
+    io::write_all(1, b" of ");
+    io::print_decimal(1, s.cases);
+    io::write_all(1, b" right\n");
+}
+
+fn main() {
+    let mut input = input();
     let mut desk = desk();
-    play(&input[..n], &mut desk);
+    run(&mut input, &mut desk);
 }

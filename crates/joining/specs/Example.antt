@@ -1,6 +1,6 @@
 -- Known answers, published for the text 123456789: 906E for the check of SDLC (CRC-16/X-25), 2189
 -- and BB3D for the byte-synchronous one over each polynomial (CRC-16/KERMIT, CRC-16/ARC), the first
--- bit sent lowest; from the text whole and joined from 1234 and 56789. The check of nothing is 0000.
+-- bit sent lowest; from the text whole and joined from 1234 and 56789; and 0000 for no text at all.
 -- Computed. Assumes nothing.
 use mathlib.Core.Path.{_≡_, refl}
 use mathlib.Core.Bool.{true, false}

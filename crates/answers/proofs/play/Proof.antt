@@ -7,10 +7,10 @@ use Rattle.answers.proofs.play.Statement.{statement}
 use Rattle.answers.proofs.play.Tie as tie
 
 abbrev Inv-loop : tie.InvT-loop
-Inv-loop input desk₀ c₀ s₀ left₀ desk c s left = length desk ≡ length desk₀
+Inv-loop input desk₀ o₀ s₀ left₀ desk o s left = length desk ≡ length desk₀
 
 abbrev μ-loop : tie.MeasureT-loop
-μ-loop input desk₀ c₀ s₀ left₀ desk c s left = left
+μ-loop input desk₀ o₀ s₀ left₀ desk o s left = left
 
 reset-requires : tie.Need-reset-requires Inv-loop μ-loop
 reset-requires c κs = search needs
@@ -24,34 +24,34 @@ loop-holds c = search needs
 dealt-requires : tie.Need-dealt-requires Inv-loop μ-loop
 dealt-requires c κs = search needs
 
+same-length : tie.Need-same-length Inv-loop μ-loop
+same-length c = search needs
+
+returns : tie.Need-returns Inv-loop μ-loop
+returns c = search needs
+
 turn-requires : tie.Need-turn-requires Inv-loop μ-loop
 turn-requires c κs = search needs
 
 answered-requires : tie.Need-answered-requires Inv-loop μ-loop
 answered-requires c κs = search needs
 
-rest-requires : tie.Need-rest-requires Inv-loop μ-loop
-rest-requires c κs = search needs
+sub-left : tie.Need-sub-left Inv-loop μ-loop
+sub-left c = omega (arith, c .before .before .before .before .before .before .before .before .before .loop-test .taken)
 
 loop-less : tie.Need-loop-less Inv-loop μ-loop
-loop-less c =
-    let t = c .before .before .before .before .before .before .before .before .before in
-    omega (arith, c .rest .ensures, t .loop-test .taken)
+loop-less c = omega (arith, c .before .before .before .before .before .before .before .before .before .loop-test .taken)
 
 loop-again : tie.Need-loop-again Inv-loop μ-loop
 loop-again c =
-    let t = c .before .before .before .before .before .before .before .before .before in
     c .before .before .before .before .before .before .before .dealt .kept .1 .1 .0
-    ∙ t .before .loop .inv
+    ∙ c .before .before .before .before .before .before .before .before .before .before .loop .inv
 
-tell-requires : tie.Need-tell-requires Inv-loop μ-loop
-tell-requires c κs = search needs
+same-length-2 : tie.Need-same-length-2 Inv-loop μ-loop
+same-length-2 c = search needs
 
-same-length : tie.Need-same-length Inv-loop μ-loop
-same-length c = search needs
-
-returns : tie.Need-returns Inv-loop μ-loop
-returns c = search needs
+returns-2 : tie.Need-returns-2 Inv-loop μ-loop
+returns-2 c = search needs
 
 pub play-spec : {M : Type 1} → statement M
 play-spec =
@@ -63,11 +63,12 @@ play-spec =
     start-requires
     loop-holds
     dealt-requires
+    same-length
+    returns
     turn-requires
     answered-requires
-    rest-requires
+    sub-left
     loop-less
     loop-again
-    tell-requires
-    same-length
-    returns)
+    same-length-2
+    returns-2)

@@ -1,26 +1,20 @@
+-- `items::behind` meets its contract: each return by the facts on its way. Assumes nothing.
 use Rattle.items.proofs.Branch.{tests}
 use Rattle.items.specs.Item.{behindItem}
 use borrow.Author.Needs.{needs}
 use Rattle.items.proofs.behind.Statement.{statement}
 use Rattle.items.proofs.behind.Tie as tie
-use Rattle.items.proofs.behind.Reads as reads
-use Rattle.items.proofs.behind.Lts as lts
-use Rattle.items.proofs.left_from.Reads as left-from-reads
 
--- src/lib.rt:185:8
 left-from-requires : tie.Need-left-from-requires
 left-from-requires c κs = search needs
 
--- src/lib.rt:186:9
 returns : tie.Need-returns
 unfolding behindItem
 returns c = simp (tests, c .if1 .taken, ← c .before .left-from .ensures)
 
--- src/lib.rt:188:5
 add-result : tie.Need-add-result
 add-result c = search needs
 
--- src/lib.rt:182:1
 returns-2 : tie.Need-returns-2
 unfolding behindItem
 returns-2 c = simp (tests, c .if1 .left, ← c .before .left-from .ensures)

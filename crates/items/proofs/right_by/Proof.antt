@@ -1,27 +1,20 @@
+-- `items::right_by` meets its contract: each return by the facts on its way. Assumes nothing.
 use Rattle.items.proofs.Branch.{tests}
 use Rattle.items.specs.Sheet.{rightBy}
 use borrow.Author.Needs.{needs}
 use Rattle.items.proofs.right_by.Statement.{statement}
 use Rattle.items.proofs.right_by.Tie as tie
-use Rattle.items.proofs.right_by.Reads as reads
-use Rattle.items.proofs.right_by.Lts as lts
-use Rattle.items.proofs.Item.is.Reads as is-reads
-use Rattle.items.proofs.wide.Reads as wide-reads
 
--- src/lib.rt:221:29
 wide-requires : tie.Need-wide-requires
 wide-requires c κs = search needs
 
--- src/lib.rt:221:9
 is-requires : tie.Need-is-requires
 is-requires c κs = search needs
 
--- src/lib.rt:221:9
 returns : tie.Need-returns
 unfolding rightBy
 returns c = simp (tests, c .before .before .if1 .taken, ← c .before .wide .ensures .0) (c .is .ensures)
 
--- src/lib.rt:217:1
 returns-2 : tie.Need-returns-2
 unfolding rightBy
 returns-2 c = simp (tests, c .if1 .left)

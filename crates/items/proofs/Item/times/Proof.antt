@@ -1,22 +1,17 @@
+-- `items::Item::times` meets its contract: each return by the facts on its way. Assumes nothing.
 use Rattle.items.proofs.Branch.{tests}
 use Rattle.items.specs.Item.{timesOf}
 use borrow.Author.Needs.{needs}
 use Rattle.items.proofs.Item.times.Statement.{statement}
 use Rattle.items.proofs.Item.times.Tie as tie
-use Rattle.items.proofs.Item.times.Reads as reads
-use Rattle.items.proofs.Item.times.Lts as lts
-use Rattle.items.proofs.two_bytes.Reads as two-bytes-reads
 
--- src/lib.rt:165:13
 two-bytes-requires : tie.Need-two-bytes-requires
 two-bytes-requires c κs = search needs
 
--- src/lib.rt:165:13
 returns : tie.Need-returns
 unfolding timesOf
 returns c = simp (tests, c .before .if1 .taken) (c .two-bytes .ensures .0)
 
--- src/lib.rt:161:5
 returns-2 : tie.Need-returns-2
 unfolding timesOf
 returns-2 c = simp (tests, c .if1 .left)

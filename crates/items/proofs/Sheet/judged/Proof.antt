@@ -1,12 +1,10 @@
+-- `items::Sheet::judged` meets its contract: each return by the facts on its way. Assumes nothing.
 use Rattle.items.proofs.Branch.{tests}
 use Rattle.items.specs.Sheet.{judged}
 use borrow.Author.Needs.{needs}
 use Rattle.items.proofs.Sheet.judged.Statement.{statement}
 use Rattle.items.proofs.Sheet.judged.Tie as tie
-use Rattle.items.proofs.Sheet.judged.Reads as reads
-use Rattle.items.proofs.Sheet.judged.Lts as lts
 
--- src/lib.rt:257:5
 returns : tie.Need-returns
 unfolding judged
 returns c = search (needs, tests)
