@@ -1,6 +1,7 @@
 // A channel whose SDLC sender was taken out, ticked and fed on its own, and is put back. Assumes nothing.
 use channel::Channel;
 use sdlc::Framer;
+use settings::transmit_on;
 ghost use mathlib.Core.Path.{_≡_};
 ghost use Rattle.drive.specs.Framer.{channelWith};
 
@@ -14,6 +15,6 @@ pub(crate) fn channel_with(mut a: Channel, f: Framer) -> Channel
     is.underrun = f.shared.latch;
     a.sender = a.sender.with_framer(f);
     a.status = a.status.noticed(was, is);
-    a.transmit = !f.shared.full & (a.registers.wr1 / 2 % 2 == 1);
+    a.transmit = !f.shared.full & transmit_on(a.registers.wr1);
     a
 }

@@ -13,16 +13,16 @@ abbrev μ-loop : tie.MeasureT-loop
 μ-loop input desk₀ o₀ s₀ left₀ desk o s left = left
 
 reset-requires : tie.Need-reset-requires Inv-loop μ-loop
-reset-requires c κs = search needs
+reset-requires c κs = tt
 
 start-requires : tie.Need-start-requires Inv-loop μ-loop
-start-requires c κs = search needs
+start-requires c κs = tt
 
 loop-holds : tie.Need-loop-holds Inv-loop μ-loop
 loop-holds c = search needs
 
 dealt-requires : tie.Need-dealt-requires Inv-loop μ-loop
-dealt-requires c κs = search needs
+dealt-requires c κs = tt
 
 same-length : tie.Need-same-length Inv-loop μ-loop
 same-length c = search needs
@@ -31,10 +31,10 @@ returns : tie.Need-returns Inv-loop μ-loop
 returns c = search needs
 
 turn-requires : tie.Need-turn-requires Inv-loop μ-loop
-turn-requires c κs = search needs
+turn-requires c κs = tt
 
 answered-requires : tie.Need-answered-requires Inv-loop μ-loop
-answered-requires c κs = search needs
+answered-requires c κs = tt
 
 sub-left : tie.Need-sub-left Inv-loop μ-loop
 sub-left c = omega (arith, c .before .before .before .before .before .before .before .before .before .loop-test .taken)

@@ -6,7 +6,7 @@ use Rattle.items.proofs.behind.Statement.{statement}
 use Rattle.items.proofs.behind.Tie as tie
 
 left-from-requires : tie.Need-left-from-requires
-left-from-requires c κs = search needs
+left-from-requires c κs = tt
 
 returns : tie.Need-returns
 unfolding behindItem

@@ -6,7 +6,7 @@ use Rattle.items.proofs.byte_from.Statement.{statement}
 use Rattle.items.proofs.byte_from.Tie as tie
 
 left-from-requires : tie.Need-left-from-requires
-left-from-requires c κs = search needs
+left-from-requires c κs = tt
 
 add-result : tie.Need-add-result
 add-result c = search needs

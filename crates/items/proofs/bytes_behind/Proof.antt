@@ -1,12 +1,11 @@
 -- `items::bytes_behind` meets its contract: each return by the facts on its way. Assumes nothing.
 use Rattle.items.proofs.Branch.{tests}
 use Rattle.items.specs.Item.{bytesBehind}
-use borrow.Author.Needs.{needs}
 use Rattle.items.proofs.bytes_behind.Statement.{statement}
 use Rattle.items.proofs.bytes_behind.Tie as tie
 
 wide-requires : tie.Need-wide-requires
-wide-requires c κs = search needs
+wide-requires c κs = tt
 
 returns : tie.Need-returns
 unfolding bytesBehind

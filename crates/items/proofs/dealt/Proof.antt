@@ -11,19 +11,19 @@ use Rattle.items.proofs.dealt.Statement.{statement}
 use Rattle.items.proofs.dealt.Tie as tie
 
 item-at-requires : tie.Need-item-at-requires
-item-at-requires c κs = search needs
+item-at-requires c κs = tt
 
 part-requires : tie.Need-part-requires
-part-requires c κs = search needs
+part-requires c κs = tt
 
 times-requires : tie.Need-times-requires
-times-requires c κs = search needs
+times-requires c κs = tt
 
 lay-times-requires : tie.Need-lay-times-requires
-lay-times-requires c κs = search needs
+lay-times-requires c κs = tt
 
 with-item-requires : tie.Need-with-item-requires
-with-item-requires c κs = search needs
+with-item-requires c κs = tt
 
 same-length : tie.Need-same-length
 same-length c = search needs

@@ -6,35 +6,35 @@ use Rattle.items.proofs.item_at.Statement.{statement}
 use Rattle.items.proofs.item_at.Tie as tie
 
 left-from-requires : tie.Need-left-from-requires
-left-from-requires c κs = search needs
+left-from-requires c κs = tt
 
 stop-requires : tie.Need-stop-requires
-stop-requires c κs = search needs
+stop-requires c κs = tt
 
 returns : tie.Need-returns
 unfolding itemAt
 returns c = simp (tests, c .before .if1 .taken, ← c .before .before .left-from .ensures) (c .stop .ensures)
 
 byte-from-requires : tie.Need-byte-from-requires
-byte-from-requires c κs = search needs
+byte-from-requires c κs = tt
 
 byte-from-requires-2 : tie.Need-byte-from-requires-2
-byte-from-requires-2 c κs = search needs
+byte-from-requires-2 c κs = tt
 
 byte-from-requires-3 : tie.Need-byte-from-requires-3
-byte-from-requires-3 c κs = search needs
+byte-from-requires-3 c κs = tt
 
 byte-from-requires-4 : tie.Need-byte-from-requires-4
-byte-from-requires-4 c κs = search needs
+byte-from-requires-4 c κs = tt
 
 byte-from-requires-5 : tie.Need-byte-from-requires-5
-byte-from-requires-5 c κs = search needs
+byte-from-requires-5 c κs = tt
 
 add-three-at : tie.Need-add-three-at
 add-three-at c = search needs
 
 three-at-requires : tie.Need-three-at-requires
-three-at-requires c κs = search needs
+three-at-requires c κs = tt
 
 add-t11 : tie.Need-add-t11
 add-t11 c = search needs
@@ -43,10 +43,10 @@ add-behind : tie.Need-add-behind
 add-behind c = search needs
 
 bytes-behind-requires : tie.Need-bytes-behind-requires
-bytes-behind-requires c κs = search needs
+bytes-behind-requires c κs = tt
 
 behind-requires : tie.Need-behind-requires
-behind-requires c κs = search needs
+behind-requires c κs = tt
 
 returns-2 : tie.Need-returns-2
 unfolding itemAt

@@ -1,15 +1,14 @@
 -- `items::right_by` meets its contract: each return by the facts on its way. Assumes nothing.
 use Rattle.items.proofs.Branch.{tests}
 use Rattle.items.specs.Sheet.{rightBy}
-use borrow.Author.Needs.{needs}
 use Rattle.items.proofs.right_by.Statement.{statement}
 use Rattle.items.proofs.right_by.Tie as tie
 
 wide-requires : tie.Need-wide-requires
-wide-requires c κs = search needs
+wide-requires c κs = tt
 
 is-requires : tie.Need-is-requires
-is-requires c κs = search needs
+is-requires c κs = tt
 
 returns : tie.Need-returns
 unfolding rightBy

@@ -6,22 +6,22 @@ use Rattle.items.proofs.three_at.Statement.{statement}
 use Rattle.items.proofs.three_at.Tie as tie
 
 byte-from-requires : tie.Need-byte-from-requires
-byte-from-requires c κs = search needs
+byte-from-requires c κs = tt
 
 byte-from-requires-2 : tie.Need-byte-from-requires-2
-byte-from-requires-2 c κs = search needs
+byte-from-requires-2 c κs = tt
 
 two-bytes-requires : tie.Need-two-bytes-requires
-two-bytes-requires c κs = search needs
+two-bytes-requires c κs = tt
 
 mul-result : tie.Need-mul-result
 mul-result c = search needs
 
 byte-from-requires-3 : tie.Need-byte-from-requires-3
-byte-from-requires-3 c κs = search needs
+byte-from-requires-3 c κs = tt
 
 wide-requires : tie.Need-wide-requires
-wide-requires c κs = search needs
+wide-requires c κs = tt
 
 add-result : tie.Need-add-result
 add-result c = search needs

@@ -1,10 +1,9 @@
 use Rattle.reading.proofs.Branch.{tests}
-use borrow.Author.Needs.{needs}
 use Rattle.reading.proofs.control_read.Statement.{statement}
 use Rattle.reading.proofs.control_read.Tie as tie
 
 read-register-requires : tie.Need-read-register-requires
-read-register-requires c κs = search needs
+read-register-requires c κs = tt
 
 returns : tie.Need-returns
 returns c = simp (tests, c .read-register .ensures)

@@ -1,14 +1,13 @@
 use Rattle.reading.proofs.Branch.{tests}
 use Rattle.channel.specs.Control.{readRegister}
-use borrow.Author.Needs.{needs}
 use Rattle.reading.proofs.read_register.Statement.{statement}
 use Rattle.reading.proofs.read_register.Tie as tie
 
 rr0-requires : tie.Need-rr0-requires
-rr0-requires c κs = search needs
+rr0-requires c κs = tt
 
 rr1-requires : tie.Need-rr1-requires
-rr1-requires c κs = search needs
+rr1-requires c κs = tt
 
 returns : tie.Need-returns
 unfolding readRegister

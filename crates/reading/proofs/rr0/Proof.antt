@@ -5,43 +5,43 @@ use Rattle.reading.proofs.rr0.Statement.{statement}
 use Rattle.reading.proofs.rr0.Tie as tie
 
 sending-requires : tie.Need-sending-requires
-sending-requires c κs = search needs
+sending-requires c κs = tt
 
 live-requires : tie.Need-live-requires
-live-requires c κs = search needs
+live-requires c κs = tt
 
 shown-bits-requires : tie.Need-shown-bits-requires
-shown-bits-requires c κs = search needs
+shown-bits-requires c κs = tt
 
 waits-requires : tie.Need-waits-requires
-waits-requires c κs = search needs
+waits-requires c κs = tt
 
 placed-requires : tie.Need-placed-requires
-placed-requires c κs = search needs
+placed-requires c κs = tt
 
 placed-requires-2 : tie.Need-placed-requires-2
-placed-requires-2 c κs = search needs
+placed-requires-2 c κs = tt
 
 buffer-ready-requires : tie.Need-buffer-ready-requires
-buffer-ready-requires c κs = search needs
+buffer-ready-requires c κs = tt
 
 placed-requires-3 : tie.Need-placed-requires-3
-placed-requires-3 c κs = search needs
+placed-requires-3 c κs = tt
 
 placed-requires-4 : tie.Need-placed-requires-4
-placed-requires-4 c κs = search needs
+placed-requires-4 c κs = tt
 
 placed-requires-5 : tie.Need-placed-requires-5
-placed-requires-5 c κs = search needs
+placed-requires-5 c κs = tt
 
 placed-requires-6 : tie.Need-placed-requires-6
-placed-requires-6 c κs = search needs
+placed-requires-6 c κs = tt
 
 placed-requires-7 : tie.Need-placed-requires-7
-placed-requires-7 c κs = search needs
+placed-requires-7 c κs = tt
 
 placed-requires-8 : tie.Need-placed-requires-8
-placed-requires-8 c κs = search needs
+placed-requires-8 c κs = tt
 
 add-result : tie.Need-add-result
 add-result c = search needs

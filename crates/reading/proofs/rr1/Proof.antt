@@ -1,33 +1,32 @@
 use Rattle.reading.proofs.Branch.{tests}
 use Rattle.channel.specs.Control.{rr1Now}
-use borrow.Author.Needs.{needs}
 use Rattle.reading.proofs.rr1.Statement.{statement}
 use Rattle.reading.proofs.rr1.Tie as tie
 
 sending-requires : tie.Need-sending-requires
-sending-requires c κs = search needs
+sending-requires c κs = tt
 
 all-sent-requires : tie.Need-all-sent-requires
-all-sent-requires c κs = search needs
+all-sent-requires c κs = tt
 
 mode-requires : tie.Need-mode-requires
-mode-requires c κs = search needs
+mode-requires c κs = tt
 
 in-blocks-requires : tie.Need-in-blocks-requires
-in-blocks-requires c κs = search needs
+in-blocks-requires c κs = tt
 
 wrong-requires : tie.Need-wrong-requires
-wrong-requires c κs = search needs
+wrong-requires c κs = tt
 
 rr1-told-requires : tie.Need-rr1-told-requires
-rr1-told-requires c κs = search needs
+rr1-told-requires c κs = tt
 
 returns : tie.Need-returns
 unfolding rr1Now
 returns c = simp (tests, c .before .before .if1 .taken, ← c .before .wrong .ensures, ← c .before .before .before .in-blocks .ensures, ← c .before .before .before .before .mode .ensures, ← c .before .before .before .before .before .all-sent .ensures, ← c .before .before .before .before .before .before .sending .ensures) (c .rr1-told .ensures)
 
 rr1-requires : tie.Need-rr1-requires
-rr1-requires c κs = search needs
+rr1-requires c κs = tt
 
 returns-2 : tie.Need-returns-2
 unfolding rr1Now

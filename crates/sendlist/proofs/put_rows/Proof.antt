@@ -31,7 +31,7 @@ shared-slice-read-put-number : tie.Need-shared-slice-read-put-number Inv-loop μ
 shared-slice-read-put-number c = search needs
 
 behind-requires : tie.Need-behind-requires Inv-loop μ-loop
-behind-requires c κs = search needs
+behind-requires c κs = tt
 
 put-number-requires : tie.Need-put-number-requires Inv-loop μ-loop
 put-number-requires c κs = search needs

@@ -8,21 +8,20 @@ use Rattle.channel.specs.declared.Answer.the-variants.{Done}
 use Rattle.channel.specs.Channel.{answered, settled}
 use Rattle.channel.specs.Events.{heardBy, receiveTick}
 use Rattle.channel.specs.Laws.Within.{still-heard}
-use borrow.Author.Needs.{needs}
 use Rattle.channel.proofs.Channel.receive_tick.Statement.{statement}
 use Rattle.channel.proofs.Channel.receive_tick.Tie as tie
 
 receiving-requires : tie.Need-receiving-requires
-receiving-requires c κs = search needs
+receiving-requires c κs = tt
 
 hear-requires : tie.Need-hear-requires
-hear-requires c κs = search needs
+hear-requires c κs = tt
 
 shows-as-requires : tie.Need-shows-as-requires
-shows-as-requires c κs = search needs
+shows-as-requires c κs = tt
 
 heard-by-requires : tie.Need-heard-by-requires
-heard-by-requires c κs = search needs
+heard-by-requires c κs = tt
 
 returns : tie.Need-returns
 unfolding receiveTick
@@ -36,10 +35,10 @@ returns c =
     (x .hear .ensures ∙ ap (λ (g : Receiving). hear g (s .receiver) b) (x .before .receiving .ensures)))
 
 heard-by-requires-2 : tie.Need-heard-by-requires-2
-heard-by-requires-2 c κs = search needs
+heard-by-requires-2 c κs = tt
 
 settled-requires : tie.Need-settled-requires
-settled-requires c κs = search needs
+settled-requires c κs = tt
 
 returns-2 : tie.Need-returns-2
 unfolding receiveTick

@@ -1,7 +1,6 @@
 use Rattle.channel.proofs.Branch.{tests}
 use Rattle.channel.specs.Channel.{settled}
 use Rattle.channel.specs.Events.{linesSet}
-use borrow.Author.Needs.{needs}
 use Rattle.channel.proofs.Channel.set_lines.Statement.{statement}
 use Rattle.channel.proofs.Channel.set_lines.Tie as tie
 
@@ -9,13 +8,13 @@ returns : tie.Need-returns
 returns c = simp (tests, c .if1 .taken)
 
 live-requires : tie.Need-live-requires
-live-requires c κs = search needs
+live-requires c κs = tt
 
 live-requires-2 : tie.Need-live-requires-2
-live-requires-2 c κs = search needs
+live-requires-2 c κs = tt
 
 noticed-requires : tie.Need-noticed-requires
-noticed-requires c κs = search needs
+noticed-requires c κs = tt
 
 returns-2 : tie.Need-returns-2
 unfolding linesSet settled

@@ -1,10 +1,9 @@
 use Rattle.channel.proofs.Branch.{tests}
-use borrow.Author.Needs.{needs}
 use Rattle.channel.proofs.events.queued.Statement.{statement}
 use Rattle.channel.proofs.events.queued.Tie as tie
 
 push-requires : tie.Need-push-requires
-push-requires c κs = search needs
+push-requires c κs = tt
 
 returns : tie.Need-returns
 returns c = simp (tests, c .before .if1 .taken) (c .push .ensures)

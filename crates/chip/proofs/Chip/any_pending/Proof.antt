@@ -1,15 +1,14 @@
 use Rattle.chip.proofs.Branch.{tests}
 use Rattle.chip.specs.Interrupts.{anyPending}
 use Rattle.chip.specs.Interrupts.{pendingOf}
-use borrow.Author.Needs.{needs}
 use Rattle.chip.proofs.Chip.any_pending.Statement.{statement}
 use Rattle.chip.proofs.Chip.any_pending.Tie as tie
 
 pending-in-both-requires : tie.Need-pending-in-both-requires
-pending-in-both-requires c κs = search needs
+pending-in-both-requires c κs = tt
 
 any-requires : tie.Need-any-requires
-any-requires c κs = search needs
+any-requires c κs = tt
 
 returns : tie.Need-returns
 unfolding anyPending pendingOf

@@ -1,18 +1,17 @@
 -- `chip::Chip::control_write_a` meets its contract: each return by the facts on its way. Assumes nothing.
 use Rattle.chip.proofs.Branch.{tests}
 use Rattle.chip.specs.Chip.{controlWriteA}
-use borrow.Author.Needs.{needs}
 use Rattle.chip.proofs.Chip.control_write_a.Statement.{statement}
 use Rattle.chip.proofs.Chip.control_write_a.Tie as tie
 
 ending-requires : tie.Need-ending-requires
-ending-requires c κs = search needs
+ending-requires c κs = tt
 
 control-write-requires : tie.Need-control-write-requires
-control-write-requires c κs = search needs
+control-write-requires c κs = tt
 
 in-a-requires : tie.Need-in-a-requires
-in-a-requires c κs = search needs
+in-a-requires c κs = tt
 
 returns : tie.Need-returns
 unfolding controlWriteA

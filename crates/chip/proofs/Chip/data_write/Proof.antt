@@ -1,31 +1,30 @@
 use Rattle.chip.proofs.Branch.{tests}
 use Rattle.chip.specs.Chip.{dataWriteCall}
-use borrow.Author.Needs.{needs}
 use Rattle.chip.proofs.Chip.data_write.Statement.{statement}
 use Rattle.chip.proofs.Chip.data_write.Tie as tie
 
 data-write-requires : tie.Need-data-write-requires
-data-write-requires c κs = search needs
+data-write-requires c κs = tt
 
 in-a-requires : tie.Need-in-a-requires
-in-a-requires c κs = search needs
+in-a-requires c κs = tt
 
 returns : tie.Need-returns
 unfolding dataWriteCall
 returns c = simp (tests, c .in-a .ensures, c .before .before .if1 .taken, c .before .data-write .ensures)
 
 data-write-requires-2 : tie.Need-data-write-requires-2
-data-write-requires-2 c κs = search needs
+data-write-requires-2 c κs = tt
 
 in-b-requires : tie.Need-in-b-requires
-in-b-requires c κs = search needs
+in-b-requires c κs = tt
 
 returns-2 : tie.Need-returns-2
 unfolding dataWriteCall
 returns-2 c = simp (tests, c .in-b .ensures, c .before .before .if2 .taken, c .before .before .before .if1 .left, c .before .data-write2 .ensures)
 
 no-channel-requires : tie.Need-no-channel-requires
-no-channel-requires c κs = search needs
+no-channel-requires c κs = tt
 
 returns-3 : tie.Need-returns-3
 unfolding dataWriteCall

@@ -1,15 +1,14 @@
 -- `chip::Chip::heard_a` meets its contract: each return by the facts on its way. Assumes nothing.
 use Rattle.chip.proofs.Branch.{tests}
 use Rattle.channel.specs.Events.{receiveTick}
-use borrow.Author.Needs.{needs}
 use Rattle.chip.proofs.Chip.heard_a.Statement.{statement}
 use Rattle.chip.proofs.Chip.heard_a.Tie as tie
 
 receive-tick-requires : tie.Need-receive-tick-requires
-receive-tick-requires c κs = search needs
+receive-tick-requires c κs = tt
 
 in-a-requires : tie.Need-in-a-requires
-in-a-requires c κs = search needs
+in-a-requires c κs = tt
 
 returns : tie.Need-returns
 unfolding receiveTick

@@ -1,15 +1,14 @@
 -- `chip::Chip::heard_b` meets its contract: each return by the facts on its way. Assumes nothing.
 use Rattle.chip.proofs.Branch.{tests}
 use Rattle.channel.specs.Events.{receiveTick}
-use borrow.Author.Needs.{needs}
 use Rattle.chip.proofs.Chip.heard_b.Statement.{statement}
 use Rattle.chip.proofs.Chip.heard_b.Tie as tie
 
 receive-tick-requires : tie.Need-receive-tick-requires
-receive-tick-requires c κs = search needs
+receive-tick-requires c κs = tt
 
 in-b-requires : tie.Need-in-b-requires
-in-b-requires c κs = search needs
+in-b-requires c κs = tt
 
 returns : tie.Need-returns
 unfolding receiveTick

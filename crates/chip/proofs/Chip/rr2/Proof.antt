@@ -1,24 +1,23 @@
 use Rattle.chip.proofs.Branch.{tests}
 use Rattle.chip.specs.Interrupts.{rr2}
 use Rattle.chip.specs.Interrupts.{pendingOf}
-use borrow.Author.Needs.{needs}
 use Rattle.chip.proofs.Chip.rr2.Statement.{statement}
 use Rattle.chip.proofs.Chip.rr2.Tie as tie
 
 status-affects-requires : tie.Need-status-affects-requires
-status-affects-requires c κs = search needs
+status-affects-requires c κs = tt
 
 pending-in-both-requires : tie.Need-pending-in-both-requires
-pending-in-both-requires c κs = search needs
+pending-in-both-requires c κs = tt
 
 highest-requires : tie.Need-highest-requires
-highest-requires c κs = search needs
+highest-requires c κs = tt
 
 special-in-both-requires : tie.Need-special-in-both-requires
-special-in-both-requires c κs = search needs
+special-in-both-requires c κs = tt
 
 vector-requires : tie.Need-vector-requires
-vector-requires c κs = search needs
+vector-requires c κs = tt
 
 returns : tie.Need-returns
 unfolding rr2 pendingOf

@@ -1,32 +1,31 @@
 -- `chip::Chip::set_lines` meets its contract: each return by the facts on its way. Assumes nothing.
 use Rattle.chip.proofs.Branch.{tests}
 use Rattle.chip.specs.Chip.{linesCall}
-use borrow.Author.Needs.{needs}
 use Rattle.chip.proofs.Chip.set_lines.Statement.{statement}
 use Rattle.chip.proofs.Chip.set_lines.Tie as tie
 
 set-lines-requires : tie.Need-set-lines-requires
-set-lines-requires c κs = search needs
+set-lines-requires c κs = tt
 
 in-a-requires : tie.Need-in-a-requires
-in-a-requires c κs = search needs
+in-a-requires c κs = tt
 
 returns : tie.Need-returns
 unfolding linesCall
 returns c = simp (tests, c .before .before .if1 .taken, ← c .before .set-lines .ensures) (c .in-a .ensures)
 
 set-lines-requires-2 : tie.Need-set-lines-requires-2
-set-lines-requires-2 c κs = search needs
+set-lines-requires-2 c κs = tt
 
 in-b-requires : tie.Need-in-b-requires
-in-b-requires c κs = search needs
+in-b-requires c κs = tt
 
 returns-2 : tie.Need-returns-2
 unfolding linesCall
 returns-2 c = simp (tests, c .before .before .if2 .taken, c .before .before .before .if1 .left, ← c .before .set-lines2 .ensures) (c .in-b .ensures)
 
 no-channel-requires : tie.Need-no-channel-requires
-no-channel-requires c κs = search needs
+no-channel-requires c κs = tt
 
 returns-3 : tie.Need-returns-3
 unfolding linesCall

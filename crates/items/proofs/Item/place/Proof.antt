@@ -10,7 +10,7 @@ unfolding placeOf
 returns c = simp (tests, c .if1 .taken)
 
 wide-requires : tie.Need-wide-requires
-wide-requires c κs = search needs
+wide-requires c κs = tt
 
 returns-2 : tie.Need-returns-2
 unfolding placeOf

@@ -1,12 +1,11 @@
 -- `items::Item::times` meets its contract: each return by the facts on its way. Assumes nothing.
 use Rattle.items.proofs.Branch.{tests}
 use Rattle.items.specs.Item.{timesOf}
-use borrow.Author.Needs.{needs}
 use Rattle.items.proofs.Item.times.Statement.{statement}
 use Rattle.items.proofs.Item.times.Tie as tie
 
 two-bytes-requires : tie.Need-two-bytes-requires
-two-bytes-requires c κs = search needs
+two-bytes-requires c κs = tt
 
 returns : tie.Need-returns
 unfolding timesOf

@@ -1,6 +1,5 @@
 -- `items::cells::cells_are` meets its contract: the wanted cells that are left decide as all do.
 -- Assumes nothing.
-use borrow.Author.Needs.{needs}
 use native.Mathlib.Omega.{arith}
 use mathlib.Core.Path.{_≡_, refl, sym, ap, _∙_}
 use Prim.Native.Nat.{ℕ, _+_, _*_, _≤_}
@@ -26,7 +25,7 @@ three-at-requires : tie.Need-three-at-requires Inv-loop μ-loop
 three-at-requires c κs = omega (arith, c .before .loop .inv .0, c .loop-test .taken)
 
 cell-requires : tie.Need-cell-requires Inv-loop μ-loop
-cell-requires c κs = search needs
+cell-requires c κs = tt
 
 add-three-at : tie.Need-add-three-at Inv-loop μ-loop
 add-three-at c =

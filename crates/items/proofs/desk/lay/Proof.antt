@@ -23,7 +23,7 @@ abbrev μ-loop : tie.MeasureT-loop
 μ-loop cells₀ end pattern i₀ cells i = length pattern - i
 
 left-from-requires : tie.Need-left-from-requires Inv-loop μ-loop
-left-from-requires c κs = search needs
+left-from-requires c κs = tt
 
 returns : tie.Need-returns Inv-loop μ-loop
 unfolding laid

@@ -1,14 +1,13 @@
 use Rattle.reading.proofs.Branch.{tests}
 use Rattle.channel.specs.Events.{pendingIn}
-use borrow.Author.Needs.{needs}
 use Rattle.reading.proofs.sources.pending.Statement.{statement}
 use Rattle.reading.proofs.sources.pending.Tie as tie
 
 receive-pending-requires : tie.Need-receive-pending-requires
-receive-pending-requires c κs = search needs
+receive-pending-requires c κs = tt
 
 external-on-requires : tie.Need-external-on-requires
-external-on-requires c κs = search needs
+external-on-requires c κs = tt
 
 returns : tie.Need-returns
 unfolding pendingIn

@@ -1,14 +1,13 @@
 use Rattle.reading.proofs.Branch.{tests}
 use Rattle.channel.specs.Events.{pendingIn}
-use borrow.Author.Needs.{needs}
 use Rattle.reading.proofs.sources.pending_in_both.Statement.{statement}
 use Rattle.reading.proofs.sources.pending_in_both.Tie as tie
 
 pending-requires : tie.Need-pending-requires
-pending-requires c κs = search needs
+pending-requires c κs = tt
 
 pending-requires-2 : tie.Need-pending-requires-2
-pending-requires-2 c κs = search needs
+pending-requires-2 c κs = tt
 
 returns : tie.Need-returns
 unfolding pendingIn

@@ -1,17 +1,16 @@
 use Rattle.reading.proofs.Branch.{tests}
 use Rattle.channel.specs.Events.{receivePending}
-use borrow.Author.Needs.{needs}
 use Rattle.reading.proofs.sources.receive_pending.Statement.{statement}
 use Rattle.reading.proofs.sources.receive_pending.Tie as tie
 
 receive-mode-requires : tie.Need-receive-mode-requires
-receive-mode-requires c κs = search needs
+receive-mode-requires c κs = tt
 
 waits-requires : tie.Need-waits-requires
-waits-requires c κs = search needs
+waits-requires c κs = tt
 
 special-waits-requires : tie.Need-special-waits-requires
-special-waits-requires c κs = search needs
+special-waits-requires c κs = tt
 
 returns : tie.Need-returns
 unfolding receivePending

@@ -1,14 +1,13 @@
 use Rattle.reading.proofs.Branch.{tests}
 use Rattle.channel.specs.Events.{specialWaits}
-use borrow.Author.Needs.{needs}
 use Rattle.reading.proofs.sources.special_in_both.Statement.{statement}
 use Rattle.reading.proofs.sources.special_in_both.Tie as tie
 
 special-waits-requires : tie.Need-special-waits-requires
-special-waits-requires c κs = search needs
+special-waits-requires c κs = tt
 
 special-waits-requires-2 : tie.Need-special-waits-requires-2
-special-waits-requires-2 c κs = search needs
+special-waits-requires-2 c κs = tt
 
 returns : tie.Need-returns
 unfolding specialWaits

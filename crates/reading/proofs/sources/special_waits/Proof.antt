@@ -1,14 +1,13 @@
 use Rattle.reading.proofs.Branch.{tests}
 use Rattle.channel.specs.Events.{specialWaits}
-use borrow.Author.Needs.{needs}
 use Rattle.reading.proofs.sources.special_waits.Statement.{statement}
 use Rattle.reading.proofs.sources.special_waits.Tie as tie
 
 receive-mode-requires : tie.Need-receive-mode-requires
-receive-mode-requires c κs = search needs
+receive-mode-requires c κs = tt
 
 special-requires : tie.Need-special-requires
-special-requires c κs = search needs
+special-requires c κs = tt
 
 returns : tie.Need-returns
 unfolding specialWaits

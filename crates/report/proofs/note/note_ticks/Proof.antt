@@ -12,7 +12,7 @@ use Rattle.report.proofs.note.note_ticks.Statement.{statement}
 use Rattle.report.proofs.note.note_ticks.Tie as tie
 
 zeros-of-requires : tie.Need-zeros-of-requires
-zeros-of-requires c κs = search needs
+zeros-of-requires c κs = tt
 
 enum-known-z : tie.Need-enum-known-z
 enum-known-z c = search needs
