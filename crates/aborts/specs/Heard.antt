@@ -18,13 +18,10 @@ use Rattle.whole.specs.Heard.{Final, final, before, hearAll, flagFree, onesOver
 use Rattle.whole.specs.Laws.Heard.{hear-join}
 use Rattle.whole.specs.Laws.Frames.{flag-leaves}
 use Rattle.whole.specs.Laws.Deaf.{content-free, free-front, ones-counted, abort-no-end}
+use Rattle.whole.specs.Laws.Unclosed.{lead-six}
 use Rattle.hosts.specs.Loaded.{flags}
 
 -- A flag leaves every receiver just past it, and one that is there hears nothing in another flag
-
-lead-six : (o : ℕ) → onesOver o lead ≡ 6
-unfolding onesOver
-lead-six o = refl
 
 pub flag-past : (g : Addressing) (s : Listener) → hearAll g s flagBits .listener ≡ pastFlag
 unfolding hearAll

@@ -28,7 +28,8 @@ use Rattle.stories.specs.Sent.{ticksBy, isTick, lineOf, ticks}
 use Rattle.history.specs.Sending.Side.{heeded, good, good-of, SenderSide, side, sendingIn, sideOf}
 use Rattle.history.specs.Sending.Events.{tickedOf, tick-side, tick-bit, skip-line, write-side}
 use Rattle.history.specs.Sending.Events.{write-no-tick, line-length}
-use Rattle.sending.specs.Chain.{mode-in, write-preset, write-clear}
+use Rattle.history.specs.Sending.Anew.{write-preset, write-clear}
+use Rattle.sending.specs.Chain.{mode-in}
 use Rattle.hosts.specs.Loaded.{senderOf, loaded, onMore, passed, flags, closed, Host}
 use Rattle.history.specs.Sending.Stories.{ended, still, writes, ticking}
 use Rattle.hosts.specs.Steps.{ahead, none-leaves, none-passes, opening}

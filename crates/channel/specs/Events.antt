@@ -2,7 +2,7 @@
 -- nothing.
 use mathlib.Core.Bool.{Bool, true, false, not, _&&_, _||_}
 use Prim.Native.Nat.{ℕ}
-use lib.Dec.{eqb}
+use lib.Dec.{eqb, leb}
 use Rattle.common.specs.Choice.{if_then_else_}
 use Rattle.common.specs.declared.Refusal.the-variants as refusal
 use Rattle.line.specs.Bits.{oneIf}
@@ -15,7 +15,7 @@ use Rattle.receiver.specs.Receiver.{hear}
 use Rattle.settings.specs.declared.Lines.{Lines}
 use Rattle.interrupts.specs.declared.Sources.{Sources}
 use Rattle.channel.specs.declared.Channel.{Channel}
-use Rattle.channel.specs.declared.Answer.the-variants.{Gave, Refused}
+use Rattle.channel.specs.declared.Answer.the-variants.{Done, Gave, Refused}
 use Rattle.channel.specs.declared.Answered.{Answered}
 use Rattle.settings.specs.Settings.{externalOn, transmitOn, receiveMode, sendingOf, receivingOf}
 use Rattle.channel.specs.Channel.{withSender, withReceiver, withQueue, withLines, withArmed}
@@ -61,6 +61,15 @@ receiveTick c b =
 -- "set DCD and CTS": both at once
 unfoldable pub linesSet : Channel → Bool → Bool → Channel
 linesSet c dcd cts = settled c (withLines c (record { dcd = dcd; cts = cts }))
+
+-- 2: "a line bit, DCD or CTS above 1"
+abbrev pub onLevel : ℕ → Bool
+onLevel v = eqb v 1
+
+abbrev pub linesIn : Channel → ℕ → ℕ → Answered
+linesIn c dcd cts =
+    if leb 2 dcd || leb 2 cts then answered (Refused refusal.Level) c
+    else answered Done (linesSet c (onLevel dcd) (onLevel cts))
 
 -- 01, Interrupts: the oldest entry is "special: overrun, framing, frame end, parity in mode 2"
 unfoldable pub specialWaits : Channel → Bool

@@ -1,32 +1,34 @@
-// 01, Sending, Receiving, Interrupts: data, ticks and lines, and which sources are pending. Assumes nothing.
+// 01, Sending, Receiving: data, ticks and lines. Assumes nothing.
 use crate::Answer;
 use crate::Answered;
 use crate::Channel;
 use common::Refusal;
 use common::in_sdlc;
-use interrupts::Sources;
 use queue::Queue;
 use receiver::Heard;
 use sender::Ticked;
 use settings::Lines;
 use settings::breaks;
-use settings::external_on;
-use settings::receive_mode;
 use settings::transmit_on;
 ghost use mathlib.Core.Path.{_≡_};
 ghost use Rattle.line.specs.Bits.{oneIf};
 ghost use Rattle.sender.specs.Sender.{tick};
 ghost use Rattle.settings.specs.Settings.{sendingOf};
-ghost use Rattle.channel.specs.Events.{dataWritten, dataRead, afterTick, transmitTick, queued, heardBy, receiveTick, linesSet, specialWaits, receivePending, pendingIn};
+ghost use Rattle.channel.specs.declared.Answer.the-variants.{Done};
+ghost use Rattle.channel.specs.Channel.{answered};
+ghost use Rattle.channel.specs.Events.{dataWritten, dataRead, afterTick, transmitTick, queued, heardBy, receiveTick, linesIn};
 
 impl Channel {
     // A data write.
-    pub fn data_write(mut self, v: u8) -> Channel
-        ensures { λ r. ⌜ r ≡ dataWritten self v ⌝ }
+    pub fn data_write(mut self, v: u8) -> Answered
+        ensures { λ r. ⌜ r ≡ answered Done (dataWritten self v) ⌝ }
     {
         self.sender = self.sender.write(v);
         self.transmit = false;
-        self
+        Answered {
+            answer: Answer::Done,
+            channel: self,
+        }
     }
 
     // A data read: refused where nothing waits.
@@ -99,50 +101,44 @@ impl Channel {
     }
 
     // A receive tick.
-    pub fn receive_tick(self, bit: bool) -> Channel
-        ensures { λ r. ⌜ r ≡ receiveTick self bit ⌝ }
+    pub fn receive_tick(self, bit: bool) -> Answered
+        ensures { λ r. ⌜ r ≡ answered Done (receiveTick self bit) ⌝ }
     {
         let h = self.receiver
             .hear(self.registers.receiving(self.lines), bit);
         // hunt and D7 alone can move the status
         if h.receiver.shows_as(self.receiver) {
-            return self.heard_by(h);
+            return Answered {
+                answer: Answer::Done,
+                channel: self.heard_by(h),
+            };
         }
-        self.heard_by(h).settled(self)
+        Answered {
+            answer: Answer::Done,
+            channel: self.heard_by(h).settled(self),
+        }
     }
 
-    // DCD and CTS take their values.
-    pub fn set_lines(self, dcd: bool, cts: bool) -> Channel
-        ensures { λ r. ⌜ r ≡ linesSet self dcd cts ⌝ }
+    // DCD and CTS take their values; refused where one is no level.
+    pub fn set_lines(mut self, dcd: u8, cts: u8) -> Answered
+        ensures { λ r. ⌜ r ≡ linesIn self dcd cts ⌝ }
     {
-        let l = Lines { dcd, cts };
-        let mut c = self;
-        c.lines = l;
-        c.settled(self)
-    }
-
-    // The oldest entry is special, as the receive interrupt mode has it.
-    pub fn special_waits(self) -> bool
-        ensures { λ r. ⌜ r ≡ specialWaits self ⌝ }
-    {
-        self.queue.special(receive_mode(self.registers.wr1) == 2)
-    }
-
-    fn receive_pending(self) -> bool
-        ensures { λ r. ⌜ r ≡ receivePending self ⌝ }
-    {
-        let m = receive_mode(self.registers.wr1);
-        (m != 0) & ((self.queue.waits() & ((m != 1) | self.armed)) | self.special_waits())
-    }
-
-    // The sources that are pending.
-    pub fn pending(self) -> Sources
-        ensures { λ r. ⌜ r ≡ pendingIn self ⌝ }
-    {
-        Sources {
-            receive: self.receive_pending(),
-            transmit: self.transmit,
-            external: self.status.latched & external_on(self.registers.wr1),
+        if (2 <= dcd) | (2 <= cts) {
+            return Answered {
+                answer: Answer::Refused(Refusal::Level),
+                channel: self,
+            };
+        }
+        let l = Lines {
+            dcd: dcd == 1,
+            cts: cts == 1,
+        };
+        let was = self.live();
+        self.lines = l;
+        self.status = self.status.noticed(was, self.live());
+        Answered {
+            answer: Answer::Done,
+            channel: self,
         }
     }
 }
@@ -152,8 +148,7 @@ fn queued(q: Queue, h: Heard) -> Queue
     ensures { λ r. ⌜ r ≡ queued q h ⌝ }
 {
     if h.some {
-        let e = h.entry;
-        return q.push(e);
+        return q.push(h.entry);
     }
     q
 }

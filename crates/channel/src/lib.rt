@@ -1,7 +1,6 @@
 // 01, Registers, Interrupts and external status: one channel of the chip, event by event. Any value of a channel is accepted. Assumes nothing.
 mod events;
 mod external;
-mod reading;
 mod within;
 
 use common::Mode;

@@ -16,7 +16,8 @@ use Rattle.channel.specs.declared.Answered.{Answered}
 use Rattle.channel.specs.declared.Channel.{Channel}
 use Rattle.channel.specs.Channel.{answered, resetWith}
 use Rattle.channel.specs.Control.{controlWritten, controlRead}
-use Rattle.channel.specs.Events.{dataWritten, dataRead, transmitTick, receiveTick, linesSet}
+use Rattle.channel.specs.Events.{dataWritten, dataRead, transmitTick, receiveTick}
+pub use Rattle.channel.specs.Events.{onLevel, linesIn}
 use Rattle.chip.specs.declared.Chip.{Chip}
 use Rattle.chip.specs.declared.Outcome.{Outcome}
 use Rattle.chip.specs.Interrupts.{chip, serviceOf, inService, anyPending, rr2}
@@ -92,10 +93,6 @@ dataReadCall c ch = inChannel c ch dataRead
 unfoldable pub transmitCall : Chip → ℕ → Outcome
 transmitCall c ch = inChannel c ch transmitTick
 
--- 2: "a line bit, DCD or CTS above 1"
-abbrev pub onLevel : ℕ → Bool
-onLevel v = eqb v 1
-
 abbrev pub receiveIn : Channel → ℕ → Answered
 receiveIn c bit =
     if leb 2 bit then answered (Refused refusal.Level) c
@@ -103,11 +100,6 @@ receiveIn c bit =
 
 unfoldable pub receiveCall : Chip → ℕ → ℕ → Outcome
 receiveCall c ch bit = inChannel c ch (λ x. receiveIn x bit)
-
-abbrev pub linesIn : Channel → ℕ → ℕ → Answered
-linesIn c dcd cts =
-    if leb 2 dcd || leb 2 cts then answered (Refused refusal.Level) c
-    else answered Done (linesSet c (onLevel dcd) (onLevel cts))
 
 unfoldable pub linesCall : Chip → ℕ → ℕ → ℕ → Outcome
 linesCall c ch dcd cts = inChannel c ch (λ x. linesIn x dcd cts)

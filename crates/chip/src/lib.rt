@@ -10,12 +10,13 @@ use settings::Lines;
 use settings::command_in;
 use vector::Acked;
 ghost use mathlib.Core.Path.{_≡_};
+ghost use Rattle.common.specs.declared.Refusal.the-variants.{Channel as NoChannel};
 ghost use Rattle.channel.specs.declared.Answer.the-variants.{Done};
 ghost use Rattle.channel.specs.Channel.{answered};
 ghost use Rattle.channel.specs.Events.{transmitTick, receiveTick};
 ghost use Rattle.chip.specs.Interrupts.{inService};
-ghost use Rattle.chip.specs.Chip.{refused, inA, inB, hardReset, serviceBy, controlWrite, controlReadCall, dataWriteIn, dataWriteCall};
-ghost use Rattle.chip.specs.Chip.{dataReadCall, transmitCall, receiveIn, receiveCall, linesIn, linesCall};
+ghost use Rattle.chip.specs.Chip.{refused, inA, inB, hardReset, serviceBy, controlWriteA, controlWrite, controlReadCall, dataWriteCall};
+ghost use Rattle.chip.specs.Chip.{dataReadCall, transmitCall, receiveCall, linesCall};
 
 pub struct Chip {
     pub a: Channel,
@@ -42,31 +43,6 @@ fn ticked(c: Channel) -> Answered
     a.transmit_tick()
 }
 
-// A data write of a channel, as a call answers it; the others likewise.
-fn data_write_in(c: Channel, v: u8) -> Answered
-    ensures { λ r. ⌜ r ≡ dataWriteIn c v ⌝ }
-{
-    Answered {
-        answer: Answer::Done,
-        channel: c.data_write(v),
-    }
-}
-
-fn lines_in(c: Channel, dcd: u8, cts: u8) -> Answered
-    ensures { λ r. ⌜ r ≡ linesIn c dcd cts ⌝ }
-{
-    if (2 <= dcd) | (2 <= cts) {
-        return Answered {
-            answer: Answer::Refused(Refusal::Level),
-            channel: c,
-        };
-    }
-    Answered {
-        answer: Answer::Done,
-        channel: c.set_lines(dcd == 1, cts == 1),
-    }
-}
-
 impl Chip {
     // A hard reset.
     pub fn reset() -> Chip
@@ -89,6 +65,13 @@ impl Chip {
             answer: Answer::Refused(k),
             chip: self,
         }
+    }
+
+    // There is no such channel.
+    fn no_channel(self) -> Outcome
+        ensures { λ r. ⌜ r ≡ refused self NoChannel ⌝ }
+    {
+        self.refused(Refusal::Channel)
     }
 
     // A's answer, with that channel put back.
@@ -126,18 +109,25 @@ impl Chip {
         self
     }
 
+    // A's control write: command 7 first.
+    fn control_write_a(self, v: u8) -> Outcome
+        ensures { λ r. ⌜ r ≡ controlWriteA self v ⌝ }
+    {
+        let c = self.ending(v);
+        c.in_a(control::control_write(c.a, Side::A, v))
+    }
+
     // Control write.
     pub fn control_write(self, ch: u8, v: u8) -> Outcome
         ensures { λ r. ⌜ r ≡ controlWrite self ch v ⌝ }
     {
         if ch == 0 {
-            let c = self.ending(v);
-            return c.in_a(control::control_write(c.a, Side::A, v));
+            return self.control_write_a(v);
         }
         if ch == 1 {
             return self.in_b(control::control_write(self.b, Side::B, v));
         }
-        self.refused(Refusal::Channel)
+        self.no_channel()
     }
 
     // Control read.
@@ -145,12 +135,12 @@ impl Chip {
         ensures { λ r. ⌜ r ≡ controlReadCall self ch ⌝ }
     {
         if ch == 0 {
-            return self.in_a(self.a.control_read(self.any_pending(), 0));
+            return self.in_a(reading::control_read(self.a, self.any_pending(), 0));
         }
         if ch == 1 {
-            return self.in_b(self.b.control_read(false, self.rr2()));
+            return self.in_b(reading::control_read(self.b, false, self.rr2()));
         }
-        self.refused(Refusal::Channel)
+        self.no_channel()
     }
 
     // Data write.
@@ -158,12 +148,12 @@ impl Chip {
         ensures { λ r. ⌜ r ≡ dataWriteCall self ch v ⌝ }
     {
         if ch == 0 {
-            return self.in_a(data_write_in(self.a, v));
+            return self.in_a(self.a.data_write(v));
         }
         if ch == 1 {
-            return self.in_b(data_write_in(self.b, v));
+            return self.in_b(self.b.data_write(v));
         }
-        self.refused(Refusal::Channel)
+        self.no_channel()
     }
 
     // Data read.
@@ -176,7 +166,7 @@ impl Chip {
         if ch == 1 {
             return self.in_b(self.b.data_read());
         }
-        self.refused(Refusal::Channel)
+        self.no_channel()
     }
 
     // A's transmit tick, and B's. Most lie inside a byte: these are done here, with no further call (bench/README.md).
@@ -214,7 +204,7 @@ impl Chip {
         if ch == 1 {
             return self.transmit_b();
         }
-        self.refused(Refusal::Channel)
+        self.no_channel()
     }
 
     // A's receive tick whatever its bit does, and B's; the channel is copied here, as with sending.
@@ -222,64 +212,55 @@ impl Chip {
         ensures { λ r. ⌜ r ≡ inA self (answered Done (receiveTick (self .a) bit)) ⌝ }
     {
         let a = self.a;
-        self.in_a(Answered {
-            answer: Answer::Done,
-            channel: a.receive_tick(bit),
-        })
+        self.in_a(a.receive_tick(bit))
     }
 
     fn heard_b(self, bit: bool) -> Outcome
         ensures { λ r. ⌜ r ≡ inB self (answered Done (receiveTick (self .b) bit)) ⌝ }
     {
         let b = self.b;
-        self.in_b(Answered {
-            answer: Answer::Done,
-            channel: b.receive_tick(bit),
-        })
+        self.in_b(b.receive_tick(bit))
     }
 
     // A's receive tick, and B's; most lie inside a character.
-    fn receive_a(self, bit: u8) -> Outcome
-        ensures { λ r. ⌜ r ≡ inA self (receiveIn (self .a) bit) ⌝ }
+    fn receive_a(self, bit: bool) -> Outcome
+        ensures { λ r. ⌜ r ≡ inA self (answered Done (receiveTick (self .a) bit)) ⌝ }
     {
-        if 2 <= bit {
-            return self.refused(Refusal::Level);
-        }
         if self.a.hears_block() {
-            return self.in_a(self.a.hear_block(bit == 1));
+            return self.in_a(self.a.hear_block(bit));
         }
-        if self.a.hears_within(bit == 1) {
-            return self.in_a(self.a.hear_within(bit == 1));
+        if self.a.hears_within(bit) {
+            return self.in_a(self.a.hear_within(bit));
         }
-        self.heard_a(bit == 1)
+        self.heard_a(bit)
     }
 
-    fn receive_b(self, bit: u8) -> Outcome
-        ensures { λ r. ⌜ r ≡ inB self (receiveIn (self .b) bit) ⌝ }
+    fn receive_b(self, bit: bool) -> Outcome
+        ensures { λ r. ⌜ r ≡ inB self (answered Done (receiveTick (self .b) bit)) ⌝ }
     {
-        if 2 <= bit {
-            return self.refused(Refusal::Level);
-        }
         if self.b.hears_block() {
-            return self.in_b(self.b.hear_block(bit == 1));
+            return self.in_b(self.b.hear_block(bit));
         }
-        if self.b.hears_within(bit == 1) {
-            return self.in_b(self.b.hear_within(bit == 1));
+        if self.b.hears_within(bit) {
+            return self.in_b(self.b.hear_within(bit));
         }
-        self.heard_b(bit == 1)
+        self.heard_b(bit)
     }
 
     // Receive tick.
     pub fn receive(self, ch: u8, bit: u8) -> Outcome
         ensures { λ r. ⌜ r ≡ receiveCall self ch bit ⌝ }
     {
+        if 2 <= ch {
+            return self.no_channel();
+        }
+        if 2 <= bit {
+            return self.refused(Refusal::Level);
+        }
         if ch == 0 {
-            return self.receive_a(bit);
+            return self.receive_a(bit == 1);
         }
-        if ch == 1 {
-            return self.receive_b(bit);
-        }
-        self.refused(Refusal::Channel)
+        self.receive_b(bit == 1)
     }
 
     // Set DCD and CTS.
@@ -287,11 +268,11 @@ impl Chip {
         ensures { λ r. ⌜ r ≡ linesCall self ch dcd cts ⌝ }
     {
         if ch == 0 {
-            return self.in_a(lines_in(self.a, dcd, cts));
+            return self.in_a(self.a.set_lines(dcd, cts));
         }
         if ch == 1 {
-            return self.in_b(lines_in(self.b, dcd, cts));
+            return self.in_b(self.b.set_lines(dcd, cts));
         }
-        self.refused(Refusal::Channel)
+        self.no_channel()
     }
 }

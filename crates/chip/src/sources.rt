@@ -6,13 +6,14 @@ use interrupts::Six;
 use interrupts::Sources;
 use interrupts::acknowledge;
 use interrupts::may_take;
+use reading::pending_in_both;
+use reading::special_in_both;
 use settings::status_affects;
 use vector::Acked;
-use vector::Special;
 use vector::vector;
 ghost use mathlib.Core.Path.{_≡_};
 ghost use Rattle.channel.specs.Channel.{withService};
-ghost use Rattle.chip.specs.Interrupts.{pendingOf, serviceOf, inService, anyPending, rr2, acknowledge, reti};
+ghost use Rattle.chip.specs.Interrupts.{serviceOf, inService, anyPending, rr2, acknowledge, reti};
 
 fn with_service(mut c: Channel, s: Sources) -> Channel
     ensures { λ r. ⌜ r ≡ withService c s ⌝ }
@@ -22,16 +23,6 @@ fn with_service(mut c: Channel, s: Sources) -> Channel
 }
 
 impl Chip {
-    // The sources that are pending.
-    fn pending(self) -> Six
-        ensures { λ r. ⌜ r ≡ pendingOf self ⌝ }
-    {
-        Six {
-            a: self.a.pending(),
-            b: self.b.pending(),
-        }
-    }
-
     // The sources in service.
     fn service(self) -> Six
         ensures { λ r. ⌜ r ≡ serviceOf self ⌝ }
@@ -54,23 +45,18 @@ impl Chip {
     pub fn any_pending(self) -> bool
         ensures { λ r. ⌜ r ≡ anyPending self ⌝ }
     {
-        self.pending().any()
+        pending_in_both(self.a, self.b).any()
     }
 
     // RR2, as B reads it.
     pub fn rr2(self) -> u8
         ensures { λ r. ⌜ r ≡ rr2 self ⌝ }
     {
-        let special = Special {
-            a: self.a.special_waits(),
-            b: self.b.special_waits(),
-        };
-        let level = self.pending().highest();
         vector(
             self.b.registers.wr2,
             status_affects(self.b.registers.wr1),
-            level,
-            special,
+            pending_in_both(self.a, self.b).highest(),
+            special_in_both(self.a, self.b),
         )
     }
 
@@ -78,7 +64,7 @@ impl Chip {
     pub fn acknowledge(self) -> Acknowledged
         ensures { λ r. ⌜ r ≡ acknowledge self ⌝ }
     {
-        let p = self.pending();
+        let p = pending_in_both(self.a, self.b);
         let s = self.service();
         let w = Acked::by(may_take(p, s), self.rr2());
         Acknowledged {

@@ -1,6 +1,6 @@
 -- Tools for proofs: to go by a test, to go by whichever way a choice went, what a test says that
 -- came out true, and a test over every number below a bound. Assumes nothing.
-use mathlib.Core.Path.{_≡_, refl, ap}
+use mathlib.Core.Path.{_≡_, refl, sym, ap, _∙_}
 use mathlib.Core.Logic.{_≢_}
 use mathlib.Core.Bool.{Bool, true, false, not, Bool·beq, _&&_}
 use Prim.Native.Nat.{ℕ, zero, suc, _≤_, _<_}
@@ -58,6 +58,14 @@ two-cases P p0 p1 (suc (suc n)) h = absurd (omega arith)
 -- a false equation of tests gives anything
 pub void : {X : Type 0} → false ≡ true → X
 void e = absurd (let z : _≡_ {A = ℕ} 0 1 = ap (λ b. placed b 1) e in omega arith)
+
+-- a test that was refused and holds gives anything
+pub refused-test : {X : Type 0} {b : Bool} → not b ≡ true → b ≡ true → X
+refused-test n e = void (ap not (sym e) ∙ n)
+
+pub and-false : (b : Bool) → b && false ≡ false
+and-false true = refl
+and-false false = refl
 
 -- what a test says that came out true
 pub both-left : (a b : Bool) → a && b ≡ true → a ≡ true

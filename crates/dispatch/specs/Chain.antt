@@ -5,7 +5,6 @@ use mathlib.Core.Bool.{Bool, true, false}
 use mathlib.Core.List.{List, [], _∷_, _++_, append-nil}
 use Prim.Native.Nat.{ℕ, zero, suc, _+_, _≤_}
 use native.Mathlib.Omega.{arith}
-use lib.Dec.{eqb}
 use lib.ListN.{length, take, length-append}
 use lib.Seq.{take-length}
 use Rattle.common.specs.Choice.{if_then_else_}
@@ -26,20 +25,14 @@ use Rattle.blocks.specs.Laws.Sent.{sync-length, closed-length}
 use Rattle.sender.specs.declared.Sender.{Sender}
 use Rattle.sender.specs.Sender.{checkPreset, latchCleared}
 use Rattle.settings.specs.Settings.{modeIn, sendingOf}
-use Rattle.channel.specs.declared.Side as channel
-use Rattle.channel.specs.declared.Side.the-variants as channels
 use Rattle.channel.specs.declared.Channel.{Channel}
-use Rattle.channel.specs.Channel.{settled}
-use Rattle.channel.specs.Control.{commanded, preset, commandStep, presetStep, writeWr0}
-use Rattle.channel.specs.Control.{controlWritten}
 use Rattle.chip.specs.declared.Chip.{Chip}
-use Rattle.chip.specs.Chip.{controlWriteA, controlWrite}
 use Rattle.chip.specs.Event.{ControlWrite}
-use Rattle.stories.specs.Story.{Which, A, B, number, chan, happens, after}
+use Rattle.stories.specs.Story.{Which, number, chan, happens, after}
 use Rattle.stories.specs.Sent.{ticks}
-use Rattle.history.specs.Sending.Side.{sendingIn}
 use Rattle.dispatch.specs.Side.{Heeded, heeded, Good, SenderSide, sideOf}
 use Rattle.dispatch.specs.Side.{syncingOf}
+use Rattle.history.specs.Sending.Anew.{write-preset, write-clear}
 use Rattle.history.specs.Sending.Stories.{anew}
 use Rattle.dispatch.specs.Statement.{syncsOf, Start, blockTicks, NextBlock}
 use Rattle.dispatch.specs.Block.{kept, all-come}
@@ -87,39 +80,6 @@ ended g (inTail n v b f c _) e =
 ended g (closing zero v b c) e = record { x = v; unit = refl; empty = refl }
 ended g (closing (suc n) v b c) e = absurd (omega (arith, ap length e, lowBits-length (suc n) v))
 
--- What the two writes leave
-
-record Left (c d : Channel) (f : Sender → Sender) : Type 0 where
-  pub sender : d .sender ≡ f (c .sender)
-  pub settings : heeded (sendingIn d) ≡ heeded (sendingIn c)
-  pub pointer : d .pointer ≡ 0
-
-at-zero : (c : Channel) → c .pointer ≡ 0 → eqb (c .pointer) 0 ≡ true
-at-zero c p = ap (λ (n : ℕ). eqb n 0) p
-
-preset-left : (c : Channel) (s : channel.Side) → c .pointer ≡ 0
-    → Left c (controlWritten c s 0b10000000 .channel) (checkPreset (modeIn (c .registers)))
-unfolding controlWritten writeWr0 commandStep presetStep commanded preset settled
-preset-left c s p = rw (at-zero c p) (record { sender = refl; settings = refl; pointer = refl })
-
-clear-left : (c : Channel) (s : channel.Side) → c .pointer ≡ 0
-    → Left c (controlWritten c s 0b11000000 .channel) latchCleared
-unfolding controlWritten writeWr0 commandStep presetStep commanded preset settled
-clear-left c s p = rw (at-zero c p) (record { sender = refl; settings = refl; pointer = refl })
-
-write-preset : (w : Which) (c : Chip) → chan w c .pointer ≡ 0
-    → Left (chan w c) (chan w (happens c (ControlWrite (number w) 0b10000000) .chip))
-    (checkPreset (modeIn (chan w c .registers)))
-unfolding controlWrite controlWriteA
-write-preset A c p = rw (at-zero (c .a) p) (preset-left (c .a) channels.A p)
-write-preset B c p = preset-left (c .b) channels.B p
-
-write-clear : (w : Which) (c : Chip) → chan w c .pointer ≡ 0
-    → Left (chan w c) (chan w (happens c (ControlWrite (number w) 0b11000000) .chip)) latchCleared
-unfolding controlWrite controlWriteA
-write-clear A c p = rw (at-zero (c .a) p) (clear-left (c .a) channels.A p)
-write-clear B c p = clear-left (c .b) channels.B p
-
 -- "preset to zeros here"
 zeros-here : (w : Which) (c : Chip) → inBlocks (sideOf w c .heeds .mode) ≡ true
     → presetFor (modeIn (chan w c .registers)) ≡ zeros
@@ -139,7 +99,7 @@ starts w c x u f p g =
     let s : chan w e .sender ≡ latchCleared
     (checkPreset (modeIn (chan w c .registers)) (chan w c .sender)) =
     b .sender ∙ ap latchCleared (a .sender) in
-    let q : sideOf w e .heeds ≡ sideOf w c .heeds = b .settings ∙ a .settings in
+    let q : sideOf w e .heeds ≡ sideOf w c .heeds = ap heeded (b .settings ∙ a .settings) in
     let y = syncsOf w c in
     let all : syncHead y (syncLength y) ++ lowBits 0 x ≡ syncBits y =
     unfold lowBits in (append-nil (syncHead y (syncLength y))

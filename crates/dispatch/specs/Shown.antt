@@ -17,15 +17,10 @@ use Rattle.chip.specs.Event.{Transmit}
 use Rattle.stories.specs.Story.{Which, A, B, number, chan, happens}
 use Rattle.stories.specs.Sent.{lineOf}
 use Rattle.shown.specs.Shown.{unlatched-shows, tick-shown, shows-read}
+use Rattle.history.specs.Sending.Events.{tick-pointer}
 use Rattle.dispatch.specs.Side.{SenderSide, sideOf}
 use Rattle.dispatch.specs.Events.{tickedOf, tick-side, tick-bit}
 use Rattle.dispatch.specs.Statement.{RunsDry, LatchShown}
-
-pointer-stays : (w : Which) (c : Chip)
-    → chan w (happens c (Transmit (number w)) .chip) .pointer ≡ chan w c .pointer
-unfolding transmitCall transmitTick settled
-pointer-stays A c = refl
-pointer-stays B c = refl
 
 dry-side : (w : Which) (c : Chip) (r : RunsDry w c)
     → let k = chan w c .sender .shared in
@@ -58,6 +53,6 @@ latch-shown w c r =
       set = set;
       shown = λ n p.
           let d = happens c (Transmit (number w)) .chip in
-          shows-read w d (pointer-stays w c ∙ p) set
+          shows-read w d (tick-pointer w c ∙ p) set
           (tick-shown w c (unlatched-shows (chan w c .status) n) set);
     }

@@ -5,6 +5,7 @@ use chip::Outcome;
 use text::Line;
 ghost use mathlib.Core.Path.{_≡_};
 ghost use denote.Ref.{now};
+ghost use Rattle.script.specs.Step.{step};
 ghost use Rattle.events.specs.Run.{foundAt, lastLine, behind, toldLine};
 ghost use Rattle.events.specs.Run.{played, next};
 
@@ -114,14 +115,16 @@ fn told_line(o: Outcome) -> Line
     l
 }
 
-fn played(o: Outcome, at: usize) -> Told
-    ensures { λ r. ⌜ r ≡ played o at ⌝ }
+// An event is played.
+fn played(mut c: Chip, e: Event) -> Told
+    ensures { λ r. ⌜ r ≡ played (step c (e .code) (e .x) (e .y) (e .z)) (e .behind) ⌝ }
 {
-    let c = o.chip;
+    let o = script::step(c, e.code, e.x, e.y, e.z);
+    c = o.chip;
     Told {
         line: told_line(o),
         chip: c,
-        at,
+        at: e.behind,
     }
 }
 
@@ -131,11 +134,15 @@ pub fn next(c: Chip, events: &[u8], at: usize) -> Told
 {
     let f = found_at(events, at);
     match f {
-        Found::Known(e) => played(script::step(c, e.code, e.x, e.y, e.z), e.behind),
-        Found::Ended(e) => Told {
-            line: last_line(e, at),
-            chip: c,
-            at: events.len(),
-        },
+        Found::Known(e) => {
+            return played(c, e);
+        }
+        Found::Ended(e) => {
+            return Told {
+                line: last_line(e, at),
+                chip: c,
+                at: events.len(),
+            };
+        }
     }
 }

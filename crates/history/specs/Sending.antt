@@ -3,3 +3,4 @@ pub mod Side
 pub mod Quiet
 pub mod Events
 pub mod Stories
+pub mod Anew

@@ -21,7 +21,7 @@ use Rattle.chip.specs.Event.{Event, DataWrite, Transmit}
 use Rattle.whole.specs.Come.{flagTail, filledWith}
 use Rattle.whole.specs.Come as come
 use Rattle.whole.specs.Start.{started, flagHead, frameEnded}
-use Rattle.whole.specs.Laws.Start.{head-tail}
+use Rattle.whole.specs.Laws.Start.{head-tail, closed-some}
 use Rattle.stories.specs.Story.{Which, number, chan, happens, after}
 use Rattle.stories.specs.Sent.{ticksBy, isTick, lineOf, ticks}
 use Rattle.history.specs.Sending.Side.{good, SenderSide, side, sideOf}
@@ -223,17 +223,6 @@ not-aborting (opening k b f c) = refl
 not-aborting (inByte k x r o b f c) = refl
 not-aborting (inCheck k x r o b f c) = refl
 not-aborting (closing k b f c) = refl
-
-closed-some : (r c : ℕ) (bits : List Bool) (bytes : List ℕ)
-    → 8 ≤ length (come.closed r c bits bytes)
-unfolding come.closed
-closed-some r c bits bytes =
-    let text = textBits 8 bytes in
-    omega (
-      arith,
-      length-append
-          (stuff r (bits ++ (text ++ checkBits (checkOver sdlc c text)))) flagBits,
-    )
 
 -- and something before its end
 unended-some : {s : Framer} → Going s → frameEnded s ≡ false → 1 ≤ length (ahead s 0 [])

@@ -1,6 +1,7 @@
 -- Known answers, published for the text 123456789: 906E for the check of SDLC (CRC-16/X-25), 2189
 -- and BB3D for the byte-synchronous one over each polynomial (CRC-16/KERMIT, CRC-16/ARC), the first
--- bit sent lowest; from the text whole and joined from 1234 and 56789. Computed. Assumes nothing.
+-- bit sent lowest; from the text whole and joined from 1234 and 56789; and 0000 for no text at all.
+-- Computed. Assumes nothing.
 use mathlib.Core.Path.{_≡_, refl}
 use mathlib.Core.Bool.{true, false}
 use mathlib.Core.List.{List, [], _∷_, _++_}
@@ -41,3 +42,7 @@ pub published-joined :
     × (together (synchronousRule true) ≡ 0xBB3D)
 unfolding checkBy joinedBy advanced checkOver checkStep textBits lowBits topBits fromLow
 published-joined = (refl, refl, refl)
+
+pub nothing : fromLow (topBits 16 (checkBy sdlcRule [])) ≡ 0x0000
+unfolding checkBy checkOver checkStep textBits lowBits topBits fromLow
+nothing = refl

@@ -1,5 +1,6 @@
 // A station opens a note's frame on channel A of a chip, whatever that was doing: a flag has ended, the check is preset, the latch cleared and the
-// first byte written. Its SDLC sender, fed on its own from there on, is put back. Assumes nothing.
+// first byte written. Its SDLC sender, fed on its own from there on, is put back. A function holds one chip and writes it over: a second one is dear
+// to prove. Assumes nothing.
 mod calling;
 mod putback;
 mod ready;
@@ -56,21 +57,23 @@ fn ticks_to_flag(u: LineUnit) -> usize
 }
 
 // A flag has ended, and the next unit is still to be chosen.
-fn flag_ended(c: Chip) -> Chip
+fn flag_ended(mut c: Chip) -> Chip
     ensures { λ r. ⌜ r ≡ flagEnded c ⌝ }
 {
-    let d = prepared(c);
-    let s = d.a.sender;
+    c = prepared(c);
+    let s = c.a.sender;
     let u = s.unit;
-    ticked(d, ticks_to_flag(u))
+    ticked(c, ticks_to_flag(u))
 }
 
 // There the check is preset, the latch cleared and the first byte written.
-pub fn open_frame(c: Chip, v: u8) -> Chip
+pub fn open_frame(mut c: Chip, v: u8) -> Chip
     ensures { λ r. ⌜ r ≡ frameOpened c v ⌝ }
 {
-    let d = control(flag_ended(c), PRESET_CHECK);
-    write(control(d, CLEAR_LATCH), v)
+    c = flag_ended(c);
+    c = control(c, PRESET_CHECK);
+    c = control(c, CLEAR_LATCH);
+    write(c, v)
 }
 
 // A chip after ticks and data writes of A's SDLC sender alone, which has come to this.

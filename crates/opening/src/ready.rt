@@ -43,12 +43,14 @@ fn stands_still(s: Sender) -> bool
 }
 
 // Channel Reset; then SDLC, eight bits, on, check included.
-fn set_up(c: Chip) -> Chip
+fn set_up(mut c: Chip) -> Chip
     ensures { λ r. ⌜ r ≡ setUp c ⌝ }
 {
-    let reset = control(c, RESET);
-    let in_mode = control(control(reset, 4), SDLC_MODE);
-    control(control(in_mode, 5), ON_EIGHT_BITS)
+    c = control(c, RESET);
+    c = control(c, 4);
+    c = control(c, SDLC_MODE);
+    c = control(c, 5);
+    control(c, ON_EIGHT_BITS)
 }
 
 // A channel that can send stays as it is set, and a frame that is under way in it is aborted; any other is set up.
@@ -67,10 +69,10 @@ fn freed(c: Chip, g: Sending, s: Sender) -> Chip
 }
 
 // Nothing is under way, the next control write goes to WR0, and a frame can be sent.
-pub(crate) fn prepared(c: Chip) -> Chip
+pub(crate) fn prepared(mut c: Chip) -> Chip
     ensures { λ r. ⌜ r ≡ prepared c ⌝ }
 {
-    let d = look(c);
-    let g = d.a.registers.sending(d.a.lines);
-    freed(d, g, d.a.sender)
+    c = look(c);
+    let g = c.a.registers.sending(c.a.lines);
+    freed(c, g, c.a.sender)
 }

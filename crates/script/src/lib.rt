@@ -1,13 +1,13 @@
 // The events of 01 by their codes, and what a host sees of one: its refusal, the value that it gave, and the registers behind it.
 // Assumes nothing.
 use channel::Answer;
-use chip::Acknowledged;
 use chip::Chip;
 use chip::Outcome;
 use common::Refusal;
 use vector::Acked;
 ghost use mathlib.Core.Path.{_≡_};
-ghost use Rattle.script.specs.Step.{answerOf, acknowledged, unnamed, named, step};
+ghost use Rattle.chip.specs.Interrupts.{acknowledge};
+ghost use Rattle.script.specs.Step.{answerOf, acknowledged, plain, unnamed, named, step};
 ghost use Rattle.script.specs.Shown.{registerOf, shown};
 
 // The codes of the events.
@@ -39,31 +39,44 @@ fn answer_of(w: Acked) -> Answer
     }
 }
 
-fn acknowledged(o: Acknowledged) -> Outcome
-    ensures { λ r. ⌜ r ≡ acknowledged o ⌝ }
+fn acknowledged(mut c: Chip) -> Outcome
+    ensures { λ r. ⌜ r ≡ acknowledged (acknowledge c) ⌝ }
 {
+    let o = c.acknowledge();
     let w = o.acked;
-    let c = o.chip;
+    c = o.chip;
     Outcome {
         answer: answer_of(w),
         chip: c,
     }
 }
 
+// An event that is never refused and gives nothing.
+fn plain(c: Chip) -> Outcome
+    ensures { λ r. ⌜ r ≡ plain c ⌝ }
+{
+    Outcome {
+        answer: Answer::Done,
+        chip: c,
+    }
+}
+
 // The events that name no channel; any other code is taken as the last of them, RETI.
-fn unnamed(c: Chip, code: u8) -> Outcome
+fn unnamed(mut c: Chip, code: u8) -> Outcome
     ensures { λ r. ⌜ r ≡ unnamed c code ⌝ }
 {
     match code {
-        RESET => Outcome {
-            answer: Answer::Done,
-            chip: Chip::reset(),
-        },
-        ACKNOWLEDGE => acknowledged(c.acknowledge()),
-        _ => Outcome {
-            answer: Answer::Done,
-            chip: c.reti(),
-        },
+        RESET => {
+            c = Chip::reset();
+            return plain(c);
+        }
+        ACKNOWLEDGE => {
+            return acknowledged(c);
+        }
+        _ => {
+            c = c.reti();
+            return plain(c);
+        }
     }
 }
 
@@ -72,13 +85,27 @@ fn named(c: Chip, code: u8, x: u8, y: u8, z: u8) -> Outcome
     ensures { λ r. ⌜ r ≡ named c code x y z ⌝ }
 {
     match code {
-        CONTROL_WRITE => c.control_write(x, y),
-        CONTROL_READ => c.control_read(x),
-        DATA_WRITE => c.data_write(x, y),
-        DATA_READ => c.data_read(x),
-        TRANSMIT => c.transmit(x),
-        RECEIVE => c.receive(x, y),
-        _ => c.set_lines(x, y, z),
+        CONTROL_WRITE => {
+            return c.control_write(x, y);
+        }
+        CONTROL_READ => {
+            return c.control_read(x);
+        }
+        DATA_WRITE => {
+            return c.data_write(x, y);
+        }
+        DATA_READ => {
+            return c.data_read(x);
+        }
+        TRANSMIT => {
+            return c.transmit(x);
+        }
+        RECEIVE => {
+            return c.receive(x, y);
+        }
+        _ => {
+            return c.set_lines(x, y, z);
+        }
     }
 }
 
@@ -96,9 +123,9 @@ pub fn step(c: Chip, code: u8, x: u8, y: u8, z: u8) -> Outcome
 pub fn register(c: Chip, channel: u8, n: u8) -> u8
     ensures { λ r. ⌜ r ≡ registerOf c channel n ⌝ }
 {
-    let o = c.control_read(channel);
-    let o = o.chip.control_write(channel, n);
-    let o = o.chip.control_read(channel);
+    let mut o = c.control_read(channel);
+    o = o.chip.control_write(channel, n);
+    o = o.chip.control_read(channel);
     let w = o.answer;
     w.value()
 }

@@ -5,7 +5,6 @@ use mathlib.Core.Bool.{true, false}
 use mathlib.Core.List.{[], _∷_, _++_}
 use Prim.Native.Nat.{ℕ, zero, suc}
 use native.Mathlib.Omega.{arith}
-use lib.Dec.{eqb}
 use lib.ListN.{length, length-append}
 use Rattle.common.specs.declared.Mode.the-variants.{Sdlc}
 use Rattle.line.specs.Laws.Frame.{ticks-are}
@@ -17,61 +16,23 @@ use Rattle.sender.specs.Good.{Good}
 use Rattle.settings.specs.Settings.{modeIn, sendingOf}
 use Rattle.sdlc.specs.declared.Framer.{Framer}
 use Rattle.sdlc.specs.Sound.{SoundUnit}
-use Rattle.channel.specs.declared.Side.{Side}
 use Rattle.channel.specs.declared.Channel.{Channel}
-use Rattle.channel.specs.Channel.{settled}
-use Rattle.channel.specs.Control.{commanded, preset, commandStep, presetStep, writeWr0}
-use Rattle.channel.specs.Control.{controlWritten}
 use Rattle.chip.specs.declared.Chip.{Chip}
-use Rattle.chip.specs.Chip.{controlWriteA, controlWrite}
 use Rattle.chip.specs.Event.{ControlWrite}
 use Rattle.whole.specs.Come.{toCome}
 use Rattle.whole.specs.Stage.{Stage, opening, inByte, inCheck, closing}
 use Rattle.whole.specs.Start.{flagHead}
 use Rattle.whole.specs.Laws.Start.{unended-some}
-use Rattle.stories.specs.Story.{Which, A, B, number, chan, happens, after}
+use Rattle.stories.specs.Story.{number, chan, happens, after}
 use Rattle.stories.specs.Sent.{lineOf}
 use Rattle.history.specs.Sending.Side.{SenderSide, good-of, sendingIn}
+use Rattle.history.specs.Sending.Anew.{write-preset, write-clear}
 use Rattle.sending.specs.Statement.{StartsAnew, FrameEnds}
 use Rattle.sending.specs.Frame.{frame-kept, sent-length}
-use Rattle.channel.specs.declared.Side.the-variants as channels
-
--- what the two writes leave
-
-pub record Left (c d : Channel) (f : Sender → Sender) : Type 0 where
-  pub sender : d .sender ≡ f (c .sender)
-  pub settings : sendingIn d ≡ sendingIn c
-  pub pointer : d .pointer ≡ 0
-
-at-zero : (c : Channel) → c .pointer ≡ 0 → eqb (c .pointer) 0 ≡ true
-at-zero c p = ap (λ (n : ℕ). eqb n 0) p
 
 pub mode-in : (c : Channel) → Good (sendingIn c) → modeIn (c .registers) ≡ Sdlc
 unfolding sendingOf
 mode-in c h = h .sdlc-mode
-
-preset-left : (c : Channel) (s : Side) → c .pointer ≡ 0
-    → Left c (controlWritten c s 0b10000000 .channel) (checkPreset (modeIn (c .registers)))
-unfolding controlWritten writeWr0 commandStep presetStep commanded preset settled
-preset-left c s p = rw (at-zero c p) (record { sender = refl; settings = refl; pointer = refl })
-
-clear-left : (c : Channel) (s : Side) → c .pointer ≡ 0
-    → Left c (controlWritten c s 0b11000000 .channel) latchCleared
-unfolding controlWritten writeWr0 commandStep presetStep commanded preset settled
-clear-left c s p = rw (at-zero c p) (record { sender = refl; settings = refl; pointer = refl })
-
-pub write-preset : (w : Which) (c : Chip) → chan w c .pointer ≡ 0
-    → Left (chan w c) (chan w (happens c (ControlWrite (number w) 0b10000000) .chip))
-    (checkPreset (modeIn (chan w c .registers)))
-unfolding controlWrite controlWriteA
-write-preset A c p = rw (at-zero (c .a) p) (preset-left (c .a) channels.A p)
-write-preset B c p = preset-left (c .b) channels.B p
-
-pub write-clear : (w : Which) (c : Chip) → chan w c .pointer ≡ 0
-    → Left (chan w c) (chan w (happens c (ControlWrite (number w) 0b11000000) .chip)) latchCleared
-unfolding controlWrite controlWriteA
-write-clear A c p = rw (at-zero (c .a) p) (clear-left (c .a) channels.A p)
-write-clear B c p = clear-left (c .b) channels.B p
 
 pub starts-anew : StartsAnew
 unfolding after

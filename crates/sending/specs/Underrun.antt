@@ -28,7 +28,7 @@ use Rattle.timely.specs.Free.{Free}
 use Rattle.sending.specs.Statement.{RunsDry, statusLatched, UnderrunShown, LateInTime}
 use Rattle.sending.specs.Statement.{UnderrunSeen, ResetShows, Watched, NotClosed}
 use Rattle.sending.specs.Statement.{NeverUnseen}
-use Rattle.history.specs.Sending.Events.{tickedOf, tick-side, write-side}
+use Rattle.history.specs.Sending.Events.{tickedOf, tick-side, write-side, tick-pointer}
 use Rattle.sending.specs.Frame.{demand3}
 use Rattle.shown.specs.Shown.{d6-read, Shows, shows-read, unlatched-shows, tick-shown}
 use Rattle.shown.specs.Shown.{event-shown, reset-seen}
@@ -53,12 +53,6 @@ dry-latch w c d =
     ap (λ (x : SenderSide). x .sender .shared .latch) (tick-side w c (dry-heeds w c d))
     ∙ ap (λ (x : Framer). tickSdlc come.good x .framer .shared .latch) e
     ∙ dry-sets (d .last) (s .insertion .run) (k .buffer) (k .check)
-
-tick-pointer : (w : Which) (c : Chip)
-    → chan w (happens c (Transmit (number w)) .chip) .pointer ≡ chan w c .pointer
-unfolding transmitCall transmitTick settled
-tick-pointer A c = refl
-tick-pointer B c = refl
 
 -- status that is latched stays as it is
 tick-held : (w : Which) (c : Chip) → statusLatched w c ≡ true

@@ -6,46 +6,21 @@ use flags::Between;
 use station::Listed;
 use station::ROW;
 ghost use mathlib.Core.Path.{_≡_};
+ghost use Prim.Native.Nat.{_+_, _≤_};
 ghost use lib.ListN.{length};
 
 // Room for the rows of every list: a note takes three bytes of it or more.
 const ROWS: usize = 4 * 21845;
 
 // A number has at most twenty digits, and a byte stands behind it.
-const NUMBER: usize = 21;
+const DIGITS: usize = 20;
+
+const NUMBER: usize = DIGITS + 1;
 
 fn room() -> [usize; ROWS]
     ensures { λ r. ⌜ 87380 ≡ length r ⌝ }
 {
     [0; ROWS]
-}
-
-// A byte, where there is room for it; gives the next place.
-fn put_byte(out: &mut [u8], at: usize, v: u8) -> usize {
-    if at < out.len() {
-        out[at] = v;
-        return at + 1;
-    }
-    at
-}
-
-// A text, likewise.
-fn put(out: &mut [u8], at: usize, text: &[u8]) -> usize {
-    let mut p = at;
-    let mut i = 0;
-    while i < text.len() {
-        p = put_byte(out, p, text[i]);
-        i = i + 1;
-    }
-    p
-}
-
-// A number, and the byte behind it.
-fn put_number(out: &mut [u8], at: usize, v: usize, end: u8) -> usize {
-    let mut digits = [0u8; 20];
-    let n = io::decimal(v as u64, &mut digits);
-    let p = put(out, at, &digits[..n]);
-    put_byte(out, p, end)
 }
 
 // What stands behind a cell of the rows: the last of each row ends a line.
@@ -60,34 +35,51 @@ fn wide(x: u8) -> usize {
     x as usize
 }
 
-// All that waits is written.
-fn flush(out: &[u8], at: usize) {
-    if at <= out.len() {
-        io::write_all(1, &out[0..at]);
-    }
-}
-
 // What waits is written where another number has no room; gives the next place.
-fn flush_full(out: &[u8], at: usize) -> usize {
-    if at <= out.len() {
-        if out.len() - at < NUMBER {
-            io::write_all(1, &out[0..at]);
-            return 0;
-        }
+fn room_made(out: &[u8], at: usize) -> usize
+    requires { ⌜ at ≤ length (now out) ⌝ }
+    requires { ⌜ 21 ≤ length (now out) ⌝ }
+    ensures { λ r. ⌜ r + 21 ≤ length (now (out .entry)) ⌝ }
+{
+    if out.len() - at < NUMBER {
+        io::write_all(1, &out[0..at]);
+        return 0;
     }
     at
 }
 
+// A number, and the byte behind it; gives the next place.
+fn put_number(out: &mut [u8], at: usize, v: usize, end: u8) -> usize
+    requires { ⌜ at + 21 ≤ length (now out) ⌝ }
+    ensures { λ r. ⌜ r ≤ length (now (out .entry)) ⌝ }
+{
+    let mut digits = [0u8; DIGITS];
+    let n = io::decimal(v as u64, &mut digits);
+    if DIGITS < n {
+        return at;
+    }
+    let mut i = 0;
+    while i < n {
+        out[at + i] = digits[i];
+        i = i + 1;
+    }
+    out[at + n] = end;
+    at + n + 1
+}
+
 // The rows of so many notes; gives the next place.
-fn put_rows(out: &mut [u8], rows: &[usize], notes: usize) -> usize {
+fn put_rows(out: &mut [u8], rows: &[usize], notes: usize) -> usize
+    requires { ⌜ 21 ≤ length (now out) ⌝ }
+    ensures { λ r. ⌜ r ≤ length (now (out .exit)) ⌝ }
+{
     let mut at = 0;
     let mut j = 0;
     while j < rows.len() {
         if notes <= j / ROW {
             return at;
         }
+        at = room_made(out, at);
         at = put_number(out, at, rows[j], behind(j));
-        at = flush_full(out, at);
         j = j + 1;
     }
     at
@@ -95,8 +87,8 @@ fn put_rows(out: &mut [u8], rows: &[usize], notes: usize) -> usize {
 
 fn tell_rows(rows: &[usize], notes: usize) {
     let mut out = io::buffer();
-    let p = put_rows(&mut out, rows, notes);
-    flush(&out, p);
+    let n = put_rows(&mut out, rows, notes);
+    io::write_all(1, &out[0..n]);
 }
 
 // A word and a number.

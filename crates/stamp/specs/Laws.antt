@@ -10,6 +10,7 @@ use Rattle.line.specs.Bits.{odd, lowBits, fromLow, oneIf, cells}
 use Rattle.line.specs.Insertion.{stuff, zeros, runOver}
 use Rattle.line.specs.Laws.Bits.{lowBits-length, lowBits-split, fromLow-lt, lowBits-fromLow}
 use Rattle.line.specs.Laws.Insertion.{stuff-length, zeros-most, runOver-lt}
+use Rattle.line.specs.Laws.Bits.{bit-few}
 use Rattle.table.specs.Laws.{entries-at, lowBits-mod}
 use Rattle.stamp.specs.Stamp.{sentAs, stampOf, twelve, countIn, runIn, stampEntry, stampTable}
 use Rattle.stamp.specs.Stamp.{fourCells, inOne, fourEntry, fourTable}
@@ -17,10 +18,6 @@ use Rattle.stamp.specs.Stamp.{fourCells, inOne, fourEntry, fourTable}
 stampTable-at : (k : ℕ) → k < 1280 → getD stampTable k 0 ≡ stampEntry k
 unfolding stampTable
 stampTable-at k h = entries-at stampEntry 1280 k h
-
-bit-few : (b : Bool) → oneIf b ≤ 1
-bit-few true = omega arith
-bit-few false = omega arith
 
 -- cells in one number: the first of them, and those behind the first, the second and the third
 lowest : (a z : ℕ) → a ≤ 1 → (a + 256 * z) % 256 ≡ a

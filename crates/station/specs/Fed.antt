@@ -1,13 +1,15 @@
 -- A note that fits: the SDLC sender of a chip that is ready, fed to the end of its frame, is what
--- the drive of the whole chip leaves. Assumes nothing.
-use mathlib.Core.Path.{_≡_, sym, ap, subst, _∙_}
-use mathlib.Core.Bool.{true}
+-- the drive of the whole chip leaves; and the flag before a next note. Assumes nothing.
+use mathlib.Core.Path.{_≡_, refl, sym, ap, subst, _∙_}
+use mathlib.Core.Bool.{Bool, true, false}
 use mathlib.Core.List.{List, [], _∷_}
 use Prim.Native.Nat.{ℕ, _+_, _-_, _<_}
 use native.Mathlib.Omega.{arith}
+use lib.Dec.{eqb}
 use lib.ListN.{length, getD, take, drop, length-drop}
 use lib.Seq.{take-length}
 use borrow.Author.Tests.{lt-ltb}
+use Rattle.common.specs.Choice.{if_then_else_}
 use Rattle.common.specs.Tools.{void}
 use Rattle.line.specs.Frame.{flagBits, ticksOf}
 use Rattle.line.specs.Line.{noteFits}
@@ -19,10 +21,14 @@ use Rattle.chip.specs.declared.Chip.{Chip}
 use Rattle.feed.specs.declared.Run.{Run}
 use Rattle.feed.specs.Feeding.{afterTicks, ran, toTheEnd, frameFed, mostToWrite}
 use Rattle.feed.specs.Laws.Feeding.{if-true}
-use Rattle.drive.specs.Drive.{frameOpened, ticksLeft, sentBy}
+use Rattle.flags.specs.declared.Between.{Between}
+use Rattle.flags.specs.Flags.{ownFlag}
+use Rattle.drive.specs.Drive.{driven, frameOpened, ticksLeft, sentBy}
 use Rattle.drive.specs.Framer.{chipWith}
 use Rattle.drive.specs.Laws.Frame.{beginning, begins, driven-frame, come-length}
-use Rattle.report.specs.Laws.Ticks.{fits-bounds}
+use Rattle.listline.specs.ListLine.{flagged, beforeNote}
+use Rattle.line.specs.Laws.Line.{fits-few}
+use Rattle.station.specs.Walk.{flagBefore}
 
 fed-frame : (c : Chip) (v : ℕ) (vs : List ℕ) → noteFits (length (v ∷ vs)) ≡ true
     → frameFed (frameOpened c v .a .sender .shared) vs
@@ -30,13 +36,13 @@ fed-frame : (c : Chip) (v : ℕ) (vs : List ℕ) → noteFits (length (v ∷ vs)
 unfolding frameFed toTheEnd
 fed-frame c v vs f =
     let own = ap (λ (s : Framer). s .shared) (begins c v .sends) in
-    let few : length vs < mostToWrite = omega (arith, fits-bounds (length (v ∷ vs)) f .1) in
+    let few : length vs < mostToWrite = omega (arith, fits-few (length (v ∷ vs)) f .1) in
     ap (λ (k : Shared). frameFed k vs) own
     ∙ if-true (toTheEnd (beginning v) vs) (ran 0 (beginning v)) (lt-ltb (length vs) mostToWrite few)
     ∙ ap (λ (n : ℕ). ran n (afterTicks n (beginning v) vs)) (come-length v vs)
 
 -- the part of a note behind its first byte
-rest-whole : (note : List ℕ) → take (length note - 1) (drop 1 note) ≡ drop 1 note
+pub rest-whole : (note : List ℕ) → take (length note - 1) (drop 1 note) ≡ drop 1 note
 rest-whole note =
     let e : length note - 1 ≡ length (drop 1 note) = sym (length-drop 1 note) in
     ap (λ (n : ℕ). take n (drop 1 note)) e ∙ take-length (drop 1 note)
@@ -61,9 +67,21 @@ fed-whole c (v ∷ vs) f =
 
 pub feeds : (c : Chip) (note : List ℕ) (d : Chip) (r : Run) → noteFits (length note) ≡ true
     → d ≡ frameOpened c (getD note 0 0)
-    → r ≡ frameFed (d .a .sender .shared) (take (length note - 1) (drop 1 note)) → Feeds c note d r
+    → r ≡ frameFed (d .a .sender .shared) (drop 1 note) → Feeds c note d r
 feeds c note d r f ed er =
     let P : Chip → Run → Type 0 = λ x y. Feeds c note x y in
-    subst (P d) (sym (er ∙ ap (frameFed (d .a .sender .shared)) (rest-whole note)))
+    subst (P d) (sym er)
     (subst (λ (x : Chip). P x (frameFed (x .a .sender .shared) (drop 1 note))) (sym ed)
     (fed-whole c note f))
+
+-- before a next note: no tick is none
+pub flag-gone : (between : Between) (gone : ℕ) (c : Chip)
+    → driven (flagBefore between gone) c [] ≡ beforeNote between gone c
+unfolding flagBefore driven
+flag-gone between gone c = go (eqb gone 0)
+  where
+    go : (first : Bool)
+        → driven (if first then 0 else length (ownFlag between)) c []
+        ≡ (if first then c else flagged between c)
+    go true = refl
+    go false = refl

@@ -1,4 +1,5 @@
-pub mod Fed
 pub mod Answers
 pub mod Station
+pub mod Walk
+pub mod Fed
 pub mod Laws

@@ -1,7 +1,6 @@
 -- What a station answers, to a note and to a list. Assumes nothing.
-use mathlib.Core.Bool.{Bool, true, false}
 use mathlib.Core.List.{List}
-use Prim.Native.Nat.{ℕ, _+_, _≤_}
+use Prim.Native.Nat.{ℕ}
 use lib.ListN.{length}
 use Rattle.common.specs.Choice.{if_then_else_}
 use Rattle.common.specs.declared.Refusal.the-variants.{NoteLength}
@@ -9,12 +8,12 @@ use Rattle.line.specs.Frame.{zerosOf, ticksOf}
 use Rattle.line.specs.Line.{noteFits}
 use Rattle.chip.specs.declared.Chip.{Chip}
 use Rattle.drive.specs.Drive.{sentBy}
-use Rattle.report.specs.Report.{rowLength, Report, report, refusal}
-use Rattle.station.specs.declared.Told.{Told}
-use Rattle.station.specs.declared.Told.the-variants as told
+use Rattle.report.specs.Report.{Report, report, refusal}
+use Rattle.told.specs.declared.Told.{Told}
+use Rattle.told.specs.declared.Told.the-variants as told
 use Rattle.station.specs.declared.Sent.{Sent}
-use Rattle.station.specs.declared.Listed.{Listed}
-use Rattle.station.specs.declared.Listed.the-variants as listed
+use Rattle.told.specs.declared.Listed.{Listed}
+use Rattle.told.specs.declared.Listed.the-variants as listed
 use Rattle.station.specs.declared.ListSent.{ListSent}
 
 -- A note
@@ -37,8 +36,3 @@ listedOf (refusal k) = listed.Refused k
 
 abbrev pub listSent : Listed → Chip → ListSent
 listSent l c = record { listed = l; chip = c }
-
--- a row that is told has room
-abbrev pub Room : Bool → ℕ → List ℕ → Type 0
-Room true at rows = at + rowLength ≤ length rows
-Room false at rows = Unit

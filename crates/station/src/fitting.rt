@@ -1,50 +1,62 @@
-// One note through channel A of a chip: the chip is made ready, its SDLC sender fed to the end of the frame, and put back. Before a next note a flag of
-// its own goes out, if that is how notes follow each other. Assumes nothing.
+// A note that fits, through channel A of a chip: its frame is opened on the chip, behind a flag of its own if that is how notes follow each other; its
+// bytes are fed to the SDLC sender alone, and their ticks told. Assumes nothing.
 use chip::Chip;
+use feed::Run;
 use feed::feed_frame;
 use flags::Between;
 use flags::FLAG;
-use opening::chip_with;
 use opening::open_frame;
 use opening::ticked;
+use shared::Shared;
+use told::Told;
 ghost use mathlib.Core.Path.{_≡_};
 ghost use mathlib.Core.Bool.{true};
-ghost use lib.ListN.{length};
-ghost use Rattle.line.specs.Frame.{zerosOf, ticksOf};
+ghost use Prim.Native.Nat.{_+_};
+ghost use lib.ListN.{length, getD, drop};
+ghost use Rattle.line.specs.Frame.{flagBits, zerosOf, ticksOf};
 ghost use Rattle.line.specs.Line.{noteFits};
-ghost use Rattle.drive.specs.Drive.{sentBy};
+ghost use Rattle.feed.specs.Feeding.{frameFed};
+ghost use Rattle.drive.specs.Drive.{frameOpened};
 ghost use Rattle.listline.specs.ListLine.{beforeNote};
+ghost use Rattle.told.specs.declared.Told.the-variants.{Gone};
+ghost use Rattle.station.specs.Walk.{flagBefore};
 
-// A note was sent: its inserted zeros, its ticks with both flags, and the chip after it.
-pub(crate) struct Went {
-    pub(crate) zeros: usize,
-    pub(crate) ticks: usize,
-    pub(crate) chip: Chip,
-}
-
-// The chip before a note, so many having gone.
-pub(crate) fn before_note(c: Chip, between: Between, gone: usize) -> Chip
-    ensures { λ r. ⌜ r ≡ beforeNote between gone c ⌝ }
+// The ticks of a flag of its own before a note, so many having gone: the first has none.
+fn flag_before(between: Between, gone: usize) -> usize
+    ensures { λ r. ⌜ r ≡ flagBefore between gone ⌝ }
 {
     if gone == 0 {
-        return c;
+        return 0;
     }
-    ticked(c, between.own_flag())
+    between.own_flag()
 }
 
-// A note that fits.
-pub(crate) fn send_fitting(c: Chip, note: &[u8]) -> Went
+// The frame of a list's next note is opened, so many having gone. The chip is written over: each further copy of it is dear to prove.
+pub(crate) fn open_next(mut c: Chip, between: Between, gone: usize, note: &[u8]) -> Chip
     requires { ⌜ noteFits (length (now note)) ≡ true ⌝ }
-    ensures { λ r. ⌜ r .zeros ≡ zerosOf (now (note .entry)) ⌝ }
-    ensures { λ r. ⌜ r .ticks ≡ ticksOf (now (note .entry)) ⌝ }
-    ensures { λ r. ⌜ r .chip ≡ sentBy c (now (note .entry)) ⌝ }
+    ensures { λ r. ⌜ r ≡ frameOpened (beforeNote between gone c) (getD (now (note .entry)) 0 0) ⌝ }
 {
-    let d = open_frame(c, note[0]);
-    let r = feed_frame(d.a.sender.shared, &note[1..]);
-    let ticks = r.ticks + FLAG;
-    Went {
+    c = ticked(c, flag_before(between, gone));
+    open_frame(c, note[0])
+}
+
+// The note behind its first byte, which waits in the sender.
+pub(crate) fn feed_rest(s: Shared, note: &[u8]) -> Run
+    requires { ⌜ noteFits (length (now note)) ≡ true ⌝ }
+    ensures { λ r. ⌜ r ≡ frameFed s (drop 1 (now (note .entry))) ⌝ }
+{
+    feed_frame(s, &note[1..])
+}
+
+// What is told of a note whose frame took so many ticks behind its opening flag.
+pub(crate) fn gone(note: &[u8], behind: usize) -> Told
+    requires { ⌜ noteFits (length (now note)) ≡ true ⌝ }
+    requires { ⌜ behind + length flagBits ≡ ticksOf (now note) ⌝ }
+    ensures { λ r. ⌜ r ≡ Gone (zerosOf (now (note .entry))) (ticksOf (now (note .entry))) ⌝ }
+{
+    let ticks = behind + FLAG;
+    Told::Gone {
         zeros: ticks - (8 * (note.len() + 2) + 16),
         ticks,
-        chip: chip_with(d, r.framer),
     }
 }

@@ -5,7 +5,6 @@ use native.Mathlib.Omega.{arith}
 use lib.Bits.{bitXor, xor-zero-l, xor-zero-r}
 use Rattle.advance.specs.Advance.{times, product}
 use Rattle.advance.specs.Laws.Advance.{product-none, product-step}
-use borrow.Author.Needs.{needs}
 use Rattle.advance.proofs.product.Statement.{statement}
 use Rattle.advance.proofs.product.Tie as tie
 
@@ -19,10 +18,10 @@ loop-holds : tie.Need-loop-holds Inv-loop μ-loop
 loop-holds c = (c .fits .b .fits, xor-zero-l (product (c .args .p) (c .args .a) (c .args .b)))
 
 power-if-requires : tie.Need-power-if-requires Inv-loop μ-loop
-power-if-requires c κs = search needs
+power-if-requires c κs = tt
 
 check-step-requires : tie.Need-check-step-requires Inv-loop μ-loop
-check-step-requires c κs = search needs
+check-step-requires c κs = tt
 
 loop-less : tie.Need-loop-less Inv-loop μ-loop
 loop-less c = omega arith

@@ -15,14 +15,7 @@ use Rattle.asynchronous.specs.declared.Character.{Character}
 use Rattle.asynchronous.specs.declared.Typed.{Typed}
 use Rattle.asynchronous.specs.Sending.{characterBits, holding, typed, startCharacter}
 use Rattle.asynchronous.specs.Sending.{tickCharacter}
-
-odd-joined : (n : ℕ) (b : Bool) → odd (n * 2 + oneIf b) ≡ b
-odd-joined n true = let p : (n * 2 + 1) % 2 ≡ 1 = omega arith in rw p
-odd-joined n false = let p : (n * 2 + 0) % 2 ≡ 0 = omega arith in rw p
-
-half-joined : (n : ℕ) (b : Bool) → (n * 2 + oneIf b) / 2 ≡ n
-half-joined n true = omega arith
-half-joined n false = omega arith
+use Rattle.line.specs.Laws.Bits.{odd-joined, half-joined}
 
 module _ (g : Typing) (k : Shared) where
   -- the start bit

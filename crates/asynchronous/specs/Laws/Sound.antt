@@ -16,6 +16,7 @@ use Rattle.asynchronous.specs.Sending.{tickCharacter}
 use Rattle.asynchronous.specs.Hearing.{size, hearCharacter}
 use Rattle.asynchronous.specs.Sound.{SoundCharacter, SoundAssembly}
 use Rattle.asynchronous.specs.Laws.Character.{character-most}
+use Rattle.line.specs.Laws.Bits.{bit-few}
 
 abbrev SoundTyped : Typed → Type 0
 SoundTyped t = SoundCharacter (t .character)
@@ -31,10 +32,6 @@ tick-sound g c k h =
 abbrev SoundAssembled : Assembled → Type 0
 SoundAssembled t = SoundAssembly (t .assembly)
 
-oneIf-le : (b : Bool) → oneIf b ≤ 1
-oneIf-le true = omega arith
-oneIf-le false = omega arith
-
 size-within : (n : ℕ) → size n ≤ 8
 unfolding size
 size-within n =
@@ -48,5 +45,5 @@ unfolding hearCharacter
 hear-sound g a x b h =
     if-elim SoundAssembled (a .wait) (if-elim SoundAssembled b h h)
     (if-elim SoundAssembled (eqb (a .left) 0)
-    (if-elim SoundAssembled b h (omega (arith, size-within (g .length), oneIf-le (g .parity))))
+    (if-elim SoundAssembled b h (omega (arith, size-within (g .length), bit-few (g .parity))))
     (if-elim SoundAssembled (eqb (a .left) 1) (omega arith) (omega arith)))

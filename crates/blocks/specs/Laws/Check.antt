@@ -15,10 +15,11 @@ use Rattle.line.specs.Laws.Xor.{differs-self}
 use Rattle.line.specs.Laws.Check.{check-join, check-own, check-lt}
 use Rattle.line.specs.Laws.Check.{checkBits-length}
 use Rattle.shared.specs.Preset.{zeros}
-use Rattle.whole.specs.Laws.Bytes.{byte-of, byte-lt}
+use Rattle.line.specs.Laws.Frame.{byte-of}
+use Rattle.whole.specs.Laws.Bytes.{byte-lt, below-join}
 use Rattle.blocks.specs.Check.{checkFrom, checkBytes, withCheck}
 
-topBits-length : (n r : ℕ) → length (topBits n r) ≡ n
+pub topBits-length : (n r : ℕ) → length (topBits n r) ≡ n
 unfolding topBits
 topBits-length zero r = refl
 topBits-length (suc n) r = ap suc (topBits-length n (shifted r))
@@ -44,10 +45,6 @@ unfolding checkBytes
 checkBytes-below r =
     below-more (byte-lt (take 8 (topBits 16 r)) (first-eight r))
     (below-more (byte-lt (drop 8 (topBits 16 r)) (last-eight r)) below-none)
-
-pub below-join : {m : ℕ} {xs ys : List ℕ} → Below m xs → Below m ys → Below m (xs ++ ys)
-below-join below-none k = k
-below-join (below-more h l) k = below-more h (below-join l k)
 
 pub withCheck-below : (p : ℕ) {vs : List ℕ} → Below 256 vs → Below 256 (withCheck p vs)
 withCheck-below p {vs} h = below-join h (checkBytes-below (checkFrom p zeros vs))

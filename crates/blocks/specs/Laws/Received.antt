@@ -8,6 +8,7 @@ use Prim.Native.Nat.{ℕ, zero, suc, _%_, _<_}
 use lib.ListN.{length}
 use borrow.Author.Tests.{eq-eqb, ne-eqb}
 use Rattle.common.specs.Choice.{if_then_else_}
+use Rattle.common.specs.Tools.{and-false}
 use Rattle.line.specs.Bits.{lowBits, textBits}
 use Rattle.line.specs.Check.{checkOver}
 use Rattle.line.specs.Laws.Bits.{textBits-join}
@@ -95,10 +96,6 @@ kept-free : (g : Matching) (l t i : Bool) (cs : List Character)
 unfolding kept firstFree
 kept-free g l t i [] = refl
 kept-free g l t i (c ∷ cs) = refl
-
-and-false : (b : Bool) → b && false ≡ false
-and-false true = refl
-and-false false = refl
 
 entrants-free : (x : ℕ) (i : Bool) (cs : List Character)
     → entrants false x (firstFree i cs) ≡ entrants false x cs

@@ -29,6 +29,7 @@ use Rattle.blocks.specs.Come.{over, ticking, writing, writing-behind, sy
 use Rattle.blocks.specs.Come.{syncHead, blockBits, readied}
 use Rattle.blocks.specs.Laws.Hunt.{lowBits-above}
 use Rattle.blocks.specs.Laws.Come.{takes, moves, moves-behind}
+use Rattle.blocks.specs.Laws.Check.{topBits-length}
 
 -- Stories
 
@@ -96,11 +97,6 @@ sync-length y = go (y .both)
         length-append (lowBits 8 (y .first)) (lowBits 8 (y .second))
         ∙ ap₂ _+_ (lowBits-length 8 (y .first)) (lowBits-length 8 (y .second))
     go false = lowBits-length 8 (y .first)
-
-topBits-length : (n r : ℕ) → length (topBits n r) ≡ n
-unfolding topBits
-topBits-length zero r = refl
-topBits-length (suc n) r = ap suc (topBits-length n (shifted r))
 
 -- n bytes, the check, m bytes behind it, a sync
 pub closed-length : (g : Syncing) (c : ℕ) (vs tail : List ℕ)

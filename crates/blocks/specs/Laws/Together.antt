@@ -25,7 +25,7 @@ use Rattle.blocks.specs.Characters.{turnAfter, blockGiven, blockBytes, l
 use Rattle.blocks.specs.Come.{Good, syncBits, behind, closed, Act, actsLine, ticks, InTime}
 use Rattle.blocks.specs.Come.{syncLength, started, syncHead, blockBits}
 use Rattle.blocks.specs.Laws.Check.{withCheck-bits, withCheck-below, withCheck-length}
-use Rattle.blocks.specs.Laws.Check.{below-join}
+use Rattle.whole.specs.Laws.Bytes.{below-join}
 use Rattle.blocks.specs.Laws.Brought.{block-fed}
 use Rattle.blocks.specs.Laws.Sent.{block-sent}
 

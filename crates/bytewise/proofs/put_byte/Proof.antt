@@ -11,7 +11,7 @@ use Rattle.bytewise.proofs.put_byte.Statement.{statement}
 use Rattle.bytewise.proofs.put_byte.Tie as tie
 
 lacks-cells-requires : tie.Need-lacks-cells-requires
-lacks-cells-requires c κs = search needs
+lacks-cells-requires c κs = tt
 
 returns : tie.Need-returns
 unfolding byteStamped
@@ -20,7 +20,7 @@ returns c =
     rw short (refl, refl)
 
 stamp-for-requires : tie.Need-stamp-for-requires
-stamp-for-requires c κs = search needs
+stamp-for-requires c κs = tt
 
 put-stamp-requires : tie.Need-put-stamp-requires
 put-stamp-requires c κs =

@@ -13,7 +13,7 @@ add-t8 c =
     omega (arith, s .pre, s .good .0 .0, s .good .0 .1)
 
 size-requires : tie.Need-size-requires
-size-requires c κs = search needs
+size-requires c κs = tt
 
 add-t11 : tie.Need-add-t11
 add-t11 c =
@@ -21,7 +21,7 @@ add-t11 c =
     omega (arith, s .pre, s .good .0 .0, s .good .0 .1, c .size .ensures .1)
 
 size-requires-2 : tie.Need-size-requires-2
-size-requires-2 c κs = search needs
+size-requires-2 c κs = tt
 
 mul-t15 : tie.Need-mul-t15
 mul-t15 c = search needs

@@ -4,7 +4,7 @@ use Rattle.bytewise.proofs.put_twelve.Statement.{statement}
 use Rattle.bytewise.proofs.put_twelve.Tie as tie
 
 size-requires : tie.Need-size-requires
-size-requires c κs = search needs
+size-requires c κs = tt
 
 put-four-requires : tie.Need-put-four-requires
 put-four-requires c κs = search needs
@@ -13,7 +13,7 @@ add-put-four : tie.Need-add-put-four
 add-put-four c = search needs
 
 size-requires-2 : tie.Need-size-requires-2
-size-requires-2 c κs = search needs
+size-requires-2 c κs = tt
 
 put-four-requires-2 : tie.Need-put-four-requires-2
 put-four-requires-2 c κs = search needs
@@ -22,7 +22,7 @@ add-put-four-2 : tie.Need-add-put-four-2
 add-put-four-2 c = search needs
 
 size-requires-3 : tie.Need-size-requires-3
-size-requires-3 c κs = search needs
+size-requires-3 c κs = tt
 
 put-four-requires-3 : tie.Need-put-four-requires-3
 put-four-requires-3 c κs = search needs

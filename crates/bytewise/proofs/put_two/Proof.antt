@@ -4,7 +4,6 @@ use mathlib.Core.Path.{_≡_, refl, sym, ap, ap₂, _∙_}
 use native.Mathlib.Omega.{arith}
 use Prim.Native.Nat.{ℕ, _+_, _≤_}
 use mathlib.Core.Bool.{Bool, true, _&&_}
-use borrow.Author.Needs.{needs}
 use borrow.Author.Tests.{leb-true}
 use lib.Dec.{leb}
 use lib.ListN.{length}
@@ -22,10 +21,10 @@ roomy at row len fit told e =
     leb-true (at + 27) len (both-left (leb (at + 27) len) (leb row 1024) (sym told ∙ e))
 
 two-fit-requires : tie.Need-two-fit-requires
-two-fit-requires c κs = search needs
+two-fit-requires c κs = tt
 
 stamp-for-requires : tie.Need-stamp-for-requires
-stamp-for-requires c κs = search needs
+stamp-for-requires c κs = tt
 
 put-stamp-requires : tie.Need-put-stamp-requires
 put-stamp-requires c κs =
@@ -38,7 +37,7 @@ put-stamp-requires c κs =
     omega (arith, room)
 
 stamp-for-requires-2 : tie.Need-stamp-for-requires-2
-stamp-for-requires-2 c κs = search needs
+stamp-for-requires-2 c κs = tt
 
 put-stamp-requires-2 : tie.Need-put-stamp-requires-2
 put-stamp-requires-2 c κs =
@@ -86,10 +85,10 @@ returns c =
     (ap (λ (x : Plate). x .press) both, ap (λ (x : Plate). x .buffer) both)
 
 put-byte-requires : tie.Need-put-byte-requires
-put-byte-requires c κs = search needs
+put-byte-requires c κs = tt
 
 put-byte-requires-2 : tie.Need-put-byte-requires-2
-put-byte-requires-2 c κs = search needs
+put-byte-requires-2 c κs = tt
 
 same-length-2 : tie.Need-same-length-2
 same-length-2 c =

@@ -41,12 +41,9 @@ use Rattle.channel.specs.Events.{afterTick, transmitted, transmitTick, h
 use Rattle.channel.specs.Within.{sendsWithin, withinByte, sentOn, tickedWithin, hearsWithin}
 use Rattle.channel.specs.Within.{heardWithin, sendsBlock, withinBlock, sentBlock}
 use Rattle.channel.specs.Within.{tickedBlock, hearsBlock, heardBlock}
+use Rattle.line.specs.Laws.Xor.{differs-self}
 
 -- the status rule sees no change where there is none
-
-differs-same : (b : Bool) → differs b b ≡ false
-differs-same true = refl
-differs-same false = refl
 
 rises-same : (b : Bool) → (not b && b) ≡ false
 rises-same true = refl
@@ -56,11 +53,11 @@ changed-same : (l : Live) → changed l l ≡ false
 unfolding changed
 changed-same l =
     rw (
-      differs-same (l .abort),
+      differs-self (l .abort),
       rises-same (l .underrun),
-      differs-same (l .cts),
-      differs-same (l .hunt),
-      differs-same (l .dcd),
+      differs-self (l .cts),
+      differs-self (l .hunt),
+      differs-self (l .dcd),
     )
 
 pub noticed-same : (s : Status) (l : Live) → noticed s l l ≡ s

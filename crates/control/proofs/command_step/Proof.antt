@@ -1,18 +1,17 @@
 -- `control::command_step` meets its contract: each return by the facts on its way. Assumes nothing.
 use Rattle.control.proofs.Branch.{tests}
 use Rattle.channel.specs.Control.{commandStep}
-use borrow.Author.Needs.{needs}
 use Rattle.control.proofs.command_step.Statement.{statement}
 use Rattle.control.proofs.command_step.Tie as tie
 
 command-in-requires : tie.Need-command-in-requires
-command-in-requires c κs = search needs
+command-in-requires c κs = tt
 
 commanded-requires : tie.Need-commanded-requires
-commanded-requires c κs = search needs
+commanded-requires c κs = tt
 
 settled-requires : tie.Need-settled-requires
-settled-requires c κs = search needs
+settled-requires c κs = tt
 
 returns : tie.Need-returns
 unfolding commandStep

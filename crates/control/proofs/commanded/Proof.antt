@@ -1,24 +1,23 @@
 -- `control::commanded` meets its contract: each return by the facts on its way. Assumes nothing.
 use Rattle.control.proofs.Branch.{tests}
 use Rattle.channel.specs.Control.{commanded}
-use borrow.Author.Needs.{needs}
 use Rattle.control.proofs.commanded.Statement.{statement}
 use Rattle.control.proofs.commanded.Tie as tie
 
 sending-requires : tie.Need-sending-requires
-sending-requires c κs = search needs
+sending-requires c κs = tt
 
 send-abort-requires : tie.Need-send-abort-requires
-send-abort-requires c κs = search needs
+send-abort-requires c κs = tt
 
 live-requires : tie.Need-live-requires
-live-requires c κs = search needs
+live-requires c κs = tt
 
 afresh-requires : tie.Need-afresh-requires
-afresh-requires c κs = search needs
+afresh-requires c κs = tt
 
 error-reset-requires : tie.Need-error-reset-requires
-error-reset-requires c κs = search needs
+error-reset-requires c κs = tt
 
 returns : tie.Need-returns
 unfolding commanded

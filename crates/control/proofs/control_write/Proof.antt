@@ -1,29 +1,28 @@
 -- `control::control_write` meets its contract: each return by the facts on its way. Assumes nothing.
 use Rattle.control.proofs.Branch.{tests}
 use Rattle.channel.specs.Control.{controlWritten}
-use borrow.Author.Needs.{needs}
 use Rattle.control.proofs.control_write.Statement.{statement}
 use Rattle.control.proofs.control_write.Tie as tie
 
 write-wr0-requires : tie.Need-write-wr0-requires
-write-wr0-requires c κs = search needs
+write-wr0-requires c κs = tt
 
 returns : tie.Need-returns
 unfolding controlWritten
 returns c = simp (tests, c .write-wr0 .ensures, c .before .if1 .taken)
 
 not-built-requires : tie.Need-not-built-requires
-not-built-requires c κs = search needs
+not-built-requires c κs = tt
 
 returns-2 : tie.Need-returns-2
 unfolding controlWritten
 returns-2 c = simp (tests, c .if2 .taken, c .before .before .before .if1 .left, ← c .before .not-built .ensures)
 
 set-register-requires : tie.Need-set-register-requires
-set-register-requires c κs = search needs
+set-register-requires c κs = tt
 
 settled-requires : tie.Need-settled-requires
-settled-requires c κs = search needs
+settled-requires c κs = tt
 
 returns-3 : tie.Need-returns-3
 unfolding controlWritten

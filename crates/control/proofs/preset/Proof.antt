@@ -1,24 +1,23 @@
 -- `control::preset` meets its contract: each return by the facts on its way. Assumes nothing.
 use Rattle.control.proofs.Branch.{tests}
 use Rattle.channel.specs.Control.{preset}
-use borrow.Author.Needs.{needs}
 use Rattle.control.proofs.preset.Statement.{statement}
 use Rattle.control.proofs.preset.Tie as tie
 
 mode-requires : tie.Need-mode-requires
-mode-requires c κs = search needs
+mode-requires c κs = tt
 
 preset-check-requires : tie.Need-preset-check-requires
-preset-check-requires c κs = search needs
+preset-check-requires c κs = tt
 
 mode-requires-2 : tie.Need-mode-requires-2
-mode-requires-2 c κs = search needs
+mode-requires-2 c κs = tt
 
 preset-check-requires-2 : tie.Need-preset-check-requires-2
-preset-check-requires-2 c κs = search needs
+preset-check-requires-2 c κs = tt
 
 clear-latch-requires : tie.Need-clear-latch-requires
-clear-latch-requires c κs = search needs
+clear-latch-requires c κs = tt
 
 returns : tie.Need-returns
 unfolding preset

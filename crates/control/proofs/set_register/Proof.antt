@@ -1,21 +1,20 @@
 -- `control::set_register` meets its contract: each return by the facts on its way. Assumes nothing.
 use Rattle.control.proofs.Branch.{tests}
 use Rattle.channel.specs.Control.{setRegister}
-use borrow.Author.Needs.{needs}
 use Rattle.control.proofs.set_register.Statement.{statement}
 use Rattle.control.proofs.set_register.Tie as tie
 
 set-wr1-requires : tie.Need-set-wr1-requires
-set-wr1-requires c κs = search needs
+set-wr1-requires c κs = tt
 
 set-wr2-requires : tie.Need-set-wr2-requires
-set-wr2-requires c κs = search needs
+set-wr2-requires c κs = tt
 
 set-wr3-requires : tie.Need-set-wr3-requires
-set-wr3-requires c κs = search needs
+set-wr3-requires c κs = tt
 
 set-wr4-requires : tie.Need-set-wr4-requires
-set-wr4-requires c κs = search needs
+set-wr4-requires c κs = tt
 
 returns : tie.Need-returns
 unfolding setRegister

@@ -1,20 +1,19 @@
 -- `control::set_wr3` meets its contract: each return by the facts on its way. Assumes nothing.
 use Rattle.control.proofs.Branch.{tests}
-use borrow.Author.Needs.{needs}
 use Rattle.control.proofs.set_wr3.Statement.{statement}
 use Rattle.control.proofs.set_wr3.Tie as tie
 
 enters-hunt-requires : tie.Need-enters-hunt-requires
-enters-hunt-requires c κs = search needs
+enters-hunt-requires c κs = tt
 
 mode-requires : tie.Need-mode-requires
-mode-requires c κs = search needs
+mode-requires c κs = tt
 
 hunts-requires : tie.Need-hunts-requires
-hunts-requires c κs = search needs
+hunts-requires c κs = tt
 
 enter-hunt-requires : tie.Need-enter-hunt-requires
-enter-hunt-requires c κs = search needs
+enter-hunt-requires c κs = tt
 
 returns : tie.Need-returns
 returns c = simp (tests, c .enter-hunt .ensures, c .before .if1 .taken, ← c .before .before .hunts .ensures, ← c .before .before .before .mode .ensures, ← c .before .before .before .before .enters-hunt .ensures)

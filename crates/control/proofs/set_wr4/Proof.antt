@@ -1,21 +1,20 @@
 -- `control::set_wr4` meets its contract: each return by the facts on its way. Assumes nothing.
 use Rattle.control.proofs.Branch.{tests}
 use Rattle.channel.specs.Control.{setWr4}
-use borrow.Author.Needs.{needs}
 use Rattle.control.proofs.set_wr4.Statement.{statement}
 use Rattle.control.proofs.set_wr4.Tie as tie
 
 mode-of-requires : tie.Need-mode-of-requires
-mode-of-requires c κs = search needs
+mode-of-requires c κs = tt
 
 mode-requires : tie.Need-mode-requires
-mode-requires c κs = search needs
+mode-requires c κs = tt
 
 same-mode-requires : tie.Need-same-mode-requires
-same-mode-requires c κs = search needs
+same-mode-requires c κs = tt
 
 with-wr4-requires : tie.Need-with-wr4-requires
-with-wr4-requires c κs = search needs
+with-wr4-requires c κs = tt
 
 returns : tie.Need-returns
 unfolding setWr4
@@ -30,7 +29,7 @@ returns c =
     )
 
 in-mode-requires : tie.Need-in-mode-requires
-in-mode-requires c κs = search needs
+in-mode-requires c κs = tt
 
 returns-2 : tie.Need-returns-2
 unfolding setWr4

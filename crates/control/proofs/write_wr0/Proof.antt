@@ -1,28 +1,27 @@
 -- `control::write_wr0` meets its contract: each return by the facts on its way. Assumes nothing.
 use Rattle.control.proofs.Branch.{tests}
 use Rattle.channel.specs.Control.{writeWr0}
-use borrow.Author.Needs.{needs}
 use Rattle.control.proofs.write_wr0.Statement.{statement}
 use Rattle.control.proofs.write_wr0.Tie as tie
 
 command-in-requires : tie.Need-command-in-requires
-command-in-requires c κs = search needs
+command-in-requires c κs = tt
 
 reset-requires : tie.Need-reset-requires
-reset-requires c κs = search needs
+reset-requires c κs = tt
 
 returns : tie.Need-returns
 unfolding writeWr0
 returns c = simp (tests, c .before .if1 .taken, ← c .before .before .command-in .ensures) (c .reset .ensures)
 
 command-step-requires : tie.Need-command-step-requires
-command-step-requires c κs = search needs
+command-step-requires c κs = tt
 
 preset-step-requires : tie.Need-preset-step-requires
-preset-step-requires c κs = search needs
+preset-step-requires c κs = tt
 
 pointer-in-requires : tie.Need-pointer-in-requires
-pointer-in-requires c κs = search needs
+pointer-in-requires c κs = tt
 
 returns-2 : tie.Need-returns-2
 unfolding writeWr0

@@ -4,7 +4,6 @@ use native.Mathlib.Omega.{arith}
 use mathlib.Core.Path.{_≡_, sym, ap, _∙_}
 use mathlib.Core.Bool.{Bool}
 use mathlib.Core.List.{List, [], _∷_}
-use borrow.Author.Needs.{needs}
 use Prim.Native.Nat.{ℕ, _+_, _-_, _/_, _%_, _≤_, _<_}
 use lib.Bits.{bitXor, xor-lt}
 use lib.ListN.{length, getD}
@@ -67,7 +66,7 @@ count-byte-requires c κs =
     (omega (arith, l .inv .1 .0), (omega (arith, l .inv .1 .1 .0), omega (arith, l .inv .1 .1 .0)))
 
 mirrored-byte-requires : tie.Need-mirrored-byte-requires Inv-loop μ-loop
-mirrored-byte-requires c κs = search needs
+mirrored-byte-requires c κs = tt
 
 add-i : tie.Need-add-i Inv-loop μ-loop
 add-i c = omega arith

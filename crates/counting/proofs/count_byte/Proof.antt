@@ -18,7 +18,7 @@ returns : tie.Need-returns
 returns c = search needs
 
 top-ones-requires : tie.Need-top-ones-requires
-top-ones-requires c κs = search needs
+top-ones-requires c κs = tt
 
 add-t10 : tie.Need-add-t10
 add-t10 c =

@@ -8,7 +8,7 @@ use lib.Dec.{eqb}
 use borrow.Author.Tests.{eqb-true}
 use Rattle.common.specs.Choice.{if_then_else_}
 use Rattle.common.specs.Mode.{inSdlc}
-use Rattle.common.specs.Tools.{by-test, void, both-left, both-right, not-true}
+use Rattle.common.specs.Tools.{by-test, void, both-left, both-right, not-true, and-false}
 use Rattle.common.specs.declared.Mode.{Mode}
 use Rattle.common.specs.declared.Mode.the-variants.{NoMode, Asynchronous, Monosync, Bisync, Sdlc}
 use Rattle.line.specs.Bits.{odd, oneIf}
@@ -50,6 +50,7 @@ use Rattle.feed.specs.Laws.Feeding.{if-true, if-false}
 use Rattle.drive.specs.Drive.{controlA, lookA, writeA, tickA, bitA, sendAbort, channelReset}
 use Rattle.drive.specs.Drive.{presetCheck, clearLatch, sdlcMode, onEightBits, canSend}
 use Rattle.drive.specs.Drive.{betweenFrames, standsStill, setUp, freed, prepared}
+use Rattle.channel.specs.Laws.Within.{in-sdlc}
 
 -- Ticks of a channel that can send
 
@@ -111,10 +112,6 @@ module _ {c : Chip} {s : Framer} (h : Stands c s) where
   }
 
 -- WR0
-
-and-false : (a : Bool) → (a && false) ≡ false
-and-false true = refl
-and-false false = refl
 
 -- a write of WR0 that is no RETI
 wr0-a : (a : Channel) (v : ℕ) → a .pointer ≡ 0 → controlWritten a A v ≡ answered Done (writeWr0 a v)
@@ -201,13 +198,6 @@ pub record AtRest (s : Framer) : Type 0 where
   pub between : betweenFrames (s .unit) ≡ true
   pub still : s .insertion ≡ notCounted
 
-sdlc-alone : (m : Mode) → inSdlc m ≡ true → m ≡ Sdlc
-sdlc-alone NoMode e = void e
-sdlc-alone Asynchronous e = void e
-sdlc-alone Monosync e = void e
-sdlc-alone Bisync e = void e
-sdlc-alone Sdlc e = refl
-
 can-send : (g : Sending) → canSend g ≡ true → Good g
 unfolding canSend
 can-send g e =
@@ -215,7 +205,7 @@ can-send g e =
     let l = both-left (inSdlc (g .mode) && f .on) (f .included && not (g .broken)) e in
     let r = both-right (inSdlc (g .mode) && f .on) (f .included && not (g .broken)) e in
     record {
-      sdlc-mode = sdlc-alone (g .mode) (both-left (inSdlc (g .mode)) (f .on) l);
+      sdlc-mode = in-sdlc (g .mode) (both-left (inSdlc (g .mode)) (f .on) l);
       on = both-right (inSdlc (g .mode)) (f .on) l;
       included = both-left (f .included) (not (g .broken)) r;
       no-break = not-true (g .broken) (both-right (f .included) (not (g .broken)) r);

@@ -20,6 +20,7 @@ use Rattle.chip.specs.Interrupts.{chip, anyPending}
 use Rattle.chip.specs.Chip.{controlReadCall}
 use Rattle.feed.specs.Laws.Feeding.{if-true}
 use Rattle.drive.specs.Drive.{lookA, emptyA}
+use Rattle.line.specs.Laws.Bits.{bit-few}
 
 -- the third bit of eight
 third : (p q r s t u w : ℕ) (b : Bool) → p ≤ 1 → q ≤ 1
@@ -35,10 +36,6 @@ third p q r s t u w false hp hq =
 bit-as : (b : Bool) (n : ℕ) → placed b n ≡ n * oneIf b
 bit-as true n = omega arith
 bit-as false n = omega arith
-
-one-or-none : (b : Bool) → oneIf b ≤ 1
-one-or-none true = omega arith
-one-or-none false = omega arith
 
 abbrev word : (p q b r s t u w : Bool) → ℕ
 word p q b r s t u w =
@@ -62,7 +59,7 @@ third-of p q b r s t u w =
     ) in
     ap (λ (n : ℕ). odd (n / 4)) e
     ∙ third (oneIf p) (oneIf q) (oneIf r) (oneIf s) (oneIf t) (oneIf u) (oneIf w) b
-    (one-or-none p) (one-or-none q)
+    (bit-few p) (bit-few q)
 
 rr0-third : (a : Channel) (pending : Bool)
     → odd (rr0 a pending / 4) ≡ bufferReady (sendingOf (a .registers) (a .lines)) (a .sender)

@@ -7,16 +7,16 @@ use Rattle.engine.proofs.write_line.Statement.{statement}
 use Rattle.engine.proofs.write_line.Tie as tie
 
 checks-requires : tie.Need-checks-requires
-checks-requires c κs = search needs
+checks-requires c κs = tt
 
 stamps-requires : tie.Need-stamps-requires
-stamps-requires c κs = search needs
+stamps-requires c κs = tt
 
 fours-requires : tie.Need-fours-requires
-fours-requires c κs = search needs
+fours-requires c κs = tt
 
 write-line-by-requires : tie.Need-write-line-by-requires
-write-line-by-requires c κs = search needs
+write-line-by-requires c κs = tt
 
 same-length : tie.Need-same-length
 same-length c = search needs

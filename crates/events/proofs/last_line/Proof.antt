@@ -9,55 +9,55 @@ enum-told : tie.Need-enum-told
 enum-told c = search needs
 
 empty-requires : tie.Need-empty-requires
-empty-requires c κs = search needs
+empty-requires c κs = tt
 
 enum-told-2 : tie.Need-enum-told-2
 enum-told-2 c = search needs
 
 empty-requires-2 : tie.Need-empty-requires-2
-empty-requires-2 c κs = search needs
+empty-requires-2 c κs = tt
 
 slice-aggregate-with-all : tie.Need-slice-aggregate-with-all
 slice-aggregate-with-all c = search needs
 
 with-all-requires : tie.Need-with-all-requires
-with-all-requires c κs = search needs
+with-all-requires c κs = tt
 
 add-with-number : tie.Need-add-with-number
 add-with-number c = search needs
 
 with-number-requires : tie.Need-with-number-requires
-with-number-requires c κs = search needs
+with-number-requires c κs = tt
 
 enum-told-3 : tie.Need-enum-told-3
 enum-told-3 c = search needs
 
 empty-requires-3 : tie.Need-empty-requires-3
-empty-requires-3 c κs = search needs
+empty-requires-3 c κs = tt
 
 slice-aggregate-with-all-2 : tie.Need-slice-aggregate-with-all-2
 slice-aggregate-with-all-2 c = search needs
 
 with-all-requires-2 : tie.Need-with-all-requires-2
-with-all-requires-2 c κs = search needs
+with-all-requires-2 c κs = tt
 
 add-with-number-2 : tie.Need-add-with-number-2
 add-with-number-2 c = search needs
 
 with-number-requires-2 : tie.Need-with-number-requires-2
-with-number-requires-2 c κs = search needs
+with-number-requires-2 c κs = tt
 
 enum-told-4 : tie.Need-enum-told-4
 enum-told-4 c = search needs
 
 empty-requires-4 : tie.Need-empty-requires-4
-empty-requires-4 c κs = search needs
+empty-requires-4 c κs = tt
 
 slice-aggregate-with-all-3 : tie.Need-slice-aggregate-with-all-3
 slice-aggregate-with-all-3 c = search needs
 
 with-all-requires-3 : tie.Need-with-all-requires-3
-with-all-requires-3 c κs = search needs
+with-all-requires-3 c κs = tt
 
 returns : tie.Need-returns
 unfolding lastLine

@@ -6,26 +6,23 @@ use Rattle.events.proofs.next.Statement.{statement}
 use Rattle.events.proofs.next.Tie as tie
 
 found-at-requires : tie.Need-found-at-requires
-found-at-requires c κs = search needs
+found-at-requires c κs = tt
 
 enum-known-f : tie.Need-enum-known-f
 enum-known-f c = search needs
 
-step-requires : tie.Need-step-requires
-step-requires c κs = search needs
-
 played-requires : tie.Need-played-requires
-played-requires c κs = search needs
+played-requires c κs = tt
 
 enum-known-f-2 : tie.Need-enum-known-f-2
 enum-known-f-2 c = search needs
 
 last-line-requires : tie.Need-last-line-requires
-last-line-requires c κs = search needs
+last-line-requires c κs = tt
 
 returns : tie.Need-returns
 unfolding next
-returns c = simp (tests, c .before .before .before .f .given .1, ← c .before .step .ensures, ← c .before .before .before .before .before .found-at .ensures) (c .played .ensures)
+returns c = simp (tests, c .before .before .f .given .1, ← c .before .before .before .before .found-at .ensures) (c .played .ensures)
 
 returns-2 : tie.Need-returns-2
 unfolding next
@@ -37,9 +34,8 @@ next-spec =
     (tie.spec
     found-at-requires
     enum-known-f
-    step-requires
     played-requires
+    returns
     enum-known-f-2
     last-line-requires
-    returns
     returns-2)

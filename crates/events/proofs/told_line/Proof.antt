@@ -16,7 +16,7 @@ abbrev μ-loop : tie.MeasureT-loop
 μ-loop o l₀ left₀ l left = left
 
 empty-requires : tie.Need-empty-requires Inv-loop μ-loop
-empty-requires c κs = search needs
+empty-requires c κs = tt
 
 loop-holds : tie.Need-loop-holds Inv-loop μ-loop
 loop-holds c = simp (c .empty .ensures) (refl, omega arith)
@@ -25,16 +25,16 @@ sub-shown : tie.Need-sub-shown Inv-loop μ-loop
 sub-shown c = search needs
 
 shown-requires : tie.Need-shown-requires Inv-loop μ-loop
-shown-requires c κs = search needs
+shown-requires c κs = tt
 
 wide-requires : tie.Need-wide-requires Inv-loop μ-loop
-wide-requires c κs = search needs
+wide-requires c κs = tt
 
 behind-requires : tie.Need-behind-requires Inv-loop μ-loop
-behind-requires c κs = search needs
+behind-requires c κs = tt
 
 with-number-requires : tie.Need-with-number-requires Inv-loop μ-loop
-with-number-requires c κs = search needs
+with-number-requires c κs = tt
 
 sub-left : tie.Need-sub-left Inv-loop μ-loop
 sub-left c = omega arith

@@ -11,12 +11,11 @@ use Rattle.sdlc.specs.declared.LineUnit.the-variants.{Flag}
 use Rattle.sdlc.specs.Sending.{framer}
 use Rattle.feed.specs.Feeding.{ran, toTheEnd, behindFlag, begins, mostToWrite, frameFed}
 use Rattle.feed.specs.Laws.Feeding.{if-true, begins-stage, begins-few}
-use borrow.Author.Needs.{needs}
 use Rattle.feed.proofs.feed_frame.Statement.{statement}
 use Rattle.feed.proofs.feed_frame.Tie as tie
 
 not-counted-requires : tie.Need-not-counted-requires
-not-counted-requires c κs = search needs
+not-counted-requires c κs = tt
 
 to-the-end-requires : tie.Need-to-the-end-requires
 to-the-end-requires c κs =

@@ -6,13 +6,13 @@ use Rattle.feed.proofs.supply_at.Statement.{statement}
 use Rattle.feed.proofs.supply_at.Tie as tie
 
 takes-byte-requires : tie.Need-takes-byte-requires
-takes-byte-requires c κs = search needs
+takes-byte-requires c κs = tt
 
 shared-slice-read-filled : tie.Need-shared-slice-read-filled
 shared-slice-read-filled c = search needs
 
 filled-requires : tie.Need-filled-requires
-filled-requires c κs = search needs
+filled-requires c κs = tt
 
 add-t13 : tie.Need-add-t13
 add-t13 c = search needs

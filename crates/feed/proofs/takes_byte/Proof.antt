@@ -1,10 +1,9 @@
 -- `feed::takes_byte` meets its contract. Assumes nothing.
-use borrow.Author.Needs.{needs}
 use Rattle.feed.proofs.takes_byte.Statement.{statement}
 use Rattle.feed.proofs.takes_byte.Tie as tie
 
 checking-requires : tie.Need-checking-requires
-checking-requires c κs = search needs
+checking-requires c κs = tt
 
 returns : tie.Need-returns
 returns c = rw (c .checking .ensures)

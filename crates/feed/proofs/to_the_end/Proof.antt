@@ -11,7 +11,6 @@ use Rattle.feed.specs.declared.Place.{Place}
 use Rattle.feed.specs.Feeding.{afterTicks, toTheEnd}
 use Rattle.feed.specs.Turns.{supplyAt, turn}
 use Rattle.feed.specs.Laws.Turns.{Going, start, gone, left-over, turns}
-use borrow.Author.Needs.{needs}
 use Rattle.feed.proofs.to_the_end.Statement.{statement}
 use Rattle.feed.proofs.to_the_end.Tie as tie
 
@@ -26,7 +25,7 @@ loop-holds : tie.Need-loop-holds Inv-loop μ-loop
 loop-holds c = let s = c .before in start (s .args .s) (now (s .args .rest)) (s .pre .0)
 
 frame-ended-requires : tie.Need-frame-ended-requires Inv-loop μ-loop
-frame-ended-requires c κs = search needs
+frame-ended-requires c κs = tt
 
 returns : tie.Need-returns Inv-loop μ-loop
 unfolding toTheEnd
@@ -38,10 +37,10 @@ returns c =
     (sym (c .before .frame-ended .ensures) ∙ c .if1 .taken)
 
 supply-at-requires : tie.Need-supply-at-requires Inv-loop μ-loop
-supply-at-requires c κs = search needs
+supply-at-requires c κs = tt
 
 turn-requires : tie.Need-turn-requires Inv-loop μ-loop
-turn-requires c κs = search needs
+turn-requires c κs = tt
 
 add-n : tie.Need-add-n Inv-loop μ-loop
 add-n c =

@@ -1,24 +1,23 @@
 -- `feed::turn` meets its contract. Assumes nothing.
 use Rattle.feed.specs.Turns.{turn}
-use borrow.Author.Needs.{needs}
 use Rattle.feed.proofs.turn.Statement.{statement}
 use Rattle.feed.proofs.turn.Tie as tie
 
 within-requires : tie.Need-within-requires
-within-requires c κs = search needs
+within-requires c κs = tt
 
 through-requires : tie.Need-through-requires
-through-requires c κs = search needs
+through-requires c κs = tt
 
 returns : tie.Need-returns
 unfolding turn
 returns c = simp (← c .before .before .within .ensures, c .before .if1 .taken) (c .through .ensures)
 
 sending-requires : tie.Need-sending-requires
-sending-requires c κs = search needs
+sending-requires c κs = tt
 
 tick-requires : tie.Need-tick-requires
-tick-requires c κs = search needs
+tick-requires c κs = tt
 
 returns-2 : tie.Need-returns-2
 unfolding turn

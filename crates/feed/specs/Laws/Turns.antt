@@ -11,7 +11,7 @@ use lib.ListN.{length, drop, getD, length-drop}
 use lib.Seq.{drop-cons}
 use borrow.Author.Tests.{lt-ltb, le-ltb}
 use Rattle.common.specs.Choice.{if_then_else_}
-use Rattle.common.specs.Tools.{if-elim, by-test, bool-or, lt-or, void}
+use Rattle.common.specs.Tools.{if-elim, by-test, bool-or, lt-or, void, and-false}
 use Rattle.line.specs.Bits.{odd, oneIf}
 use Rattle.line.specs.Insertion.{counted}
 use Rattle.line.specs.declared.Insertion.{Insertion}
@@ -34,12 +34,9 @@ use Rattle.feed.specs.Feeding.{takesByte, Supplied, supplied, supply, af
 use Rattle.feed.specs.Turns.{place, supplyAt, bits, bitsOn, bitsThrough, bitsOf, carrying}
 use Rattle.feed.specs.Turns.{through, turn}
 use Rattle.feed.specs.Laws.Feeding.{if-true, if-false, Timely, supplies, ticks-on}
+use Rattle.line.specs.Laws.Bits.{bit-few}
 
 -- The loop over the bits of a byte
-
-one-if-le : (b : Bool) → oneIf b ≤ 1
-one-if-le true = omega arith
-one-if-le false = omega arith
 
 bits-next : (n : ℕ) (x : Bits) → bitsThrough (suc n) x ≡ bitsThrough n (bitsOn x)
 unfolding bitsThrough
@@ -65,7 +62,7 @@ bits-none x = none (x .left)
 -- a bit takes two ticks at most
 pub bits-few : (x : Bits) → 0 < x .left
     → bitsOn x .ticks + 2 * bitsOn x .left ≤ x .ticks + 2 * x .left
-bits-few x h = omega (arith, h, one-if-le (x .insertion .owed))
+bits-few x h = omega (arith, h, bit-few (x .insertion .owed))
 
 -- The byte at a place
 
@@ -120,10 +117,6 @@ supply-at s rest i =
 abbrev Waits : List ℕ → Framer → ℕ → Type 0
 Waits rest s i = (ltb i (length rest) && takesByte s) ≡ false
 
-and-none : (a : Bool) → (a && false) ≡ false
-and-none true = refl
-and-none false = refl
-
 neither : (a b : Bool) (x y : Place) → (a && b) ≡ false
     → (if a then (if b then x else y) else y) ≡ y
 neither true true x y e = void (sym e)
@@ -141,8 +134,8 @@ once-supplied rest s i =
     let P : Place → Type 0 = λ p. Waits rest (p .framer) (p .at) in
     let a = ltb i (length rest) in
     by-test P a
-    (λ l. by-test P (takesByte s) (λ b. and-none (ltb (i + 1) (length rest)))
-    (λ b. ap (λ (x : Bool). a && x) b ∙ and-none a))
+    (λ l. by-test P (takesByte s) (λ b. and-false (ltb (i + 1) (length rest)))
+    (λ b. ap (λ (x : Bool). a && x) b ∙ and-false a))
     (λ l. ap (λ (x : Bool). x && takesByte s) l)
 
 after-supplied : (n : ℕ) (s : Framer) (rest : List ℕ) (x : Supplied) → 1 ≤ n

@@ -1,17 +1,16 @@
 -- `framing::cut_short` meets its contract: each return by the facts on its way. Assumes nothing.
 use Rattle.framing.proofs.Branch.{tests}
-use borrow.Author.Needs.{needs}
 use Rattle.framing.proofs.cut_short.Statement.{statement}
 use Rattle.framing.proofs.cut_short.Tie as tie
 
 not-counted-requires : tie.Need-not-counted-requires
-not-counted-requires c κs = search needs
+not-counted-requires c κs = tt
 
 latched-requires : tie.Need-latched-requires
-latched-requires c κs = search needs
+latched-requires c κs = tt
 
 emptied-requires : tie.Need-emptied-requires
-emptied-requires c κs = search needs
+emptied-requires c κs = tt
 
 returns : tie.Need-returns
 returns c = simp (tests, c .emptied .ensures, c .before .latched .ensures, c .before .before .not-counted .ensures)

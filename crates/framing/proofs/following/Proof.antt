@@ -9,58 +9,58 @@ enum-told : tie.Need-enum-told
 enum-told c = search needs
 
 start-flag-requires : tie.Need-start-flag-requires
-start-flag-requires c κs = search needs
+start-flag-requires c κs = tt
 
 enum-known-u : tie.Need-enum-known-u
 enum-known-u c = search needs
 
 start-byte-requires : tie.Need-start-byte-requires
-start-byte-requires c κs = search needs
+start-byte-requires c κs = tt
 
 returns : tie.Need-returns
 unfolding following
 returns c = simp (tests, c .before .if1 .taken, c .before .before .before .u .given .1) (c .start-byte .ensures)
 
 start-flag-requires-2 : tie.Need-start-flag-requires-2
-start-flag-requires-2 c κs = search needs
+start-flag-requires-2 c κs = tt
 
 enum-known-u-2 : tie.Need-enum-known-u-2
 enum-known-u-2 c = search needs
 
 start-byte-requires-2 : tie.Need-start-byte-requires-2
-start-byte-requires-2 c κs = search needs
+start-byte-requires-2 c κs = tt
 
 returns-2 : tie.Need-returns-2
 unfolding following
 returns-2 c = simp (tests, c .before .if2 .taken, c .before .before .before .u2 .given .1) (c .start-byte2 .ensures)
 
 latched-requires : tie.Need-latched-requires
-latched-requires c κs = search needs
+latched-requires c κs = tt
 
 start-check-requires : tie.Need-start-check-requires
-start-check-requires c κs = search needs
+start-check-requires c κs = tt
 
 returns-3 : tie.Need-returns-3
 unfolding following
 returns-3 c = simp (tests, c .start-check .ensures, c .before .before .if3 .taken, c .before .before .before .before .before .if2 .left, c .before .before .before .before .before .before .before .u2 .given .1, c .before .latched .ensures)
 
 latched-requires-2 : tie.Need-latched-requires-2
-latched-requires-2 c κs = search needs
+latched-requires-2 c κs = tt
 
 start-flag-requires-3 : tie.Need-start-flag-requires-3
-start-flag-requires-3 c κs = search needs
+start-flag-requires-3 c κs = tt
 
 enum-known-u-3 : tie.Need-enum-known-u-3
 enum-known-u-3 c = search needs
 
 start-flag-requires-4 : tie.Need-start-flag-requires-4
-start-flag-requires-4 c κs = search needs
+start-flag-requires-4 c κs = tt
 
 enum-known-u-4 : tie.Need-enum-known-u-4
 enum-known-u-4 c = search needs
 
 start-flag-requires-5 : tie.Need-start-flag-requires-5
-start-flag-requires-5 c κs = search needs
+start-flag-requires-5 c κs = tt
 
 returns-4 : tie.Need-returns-4
 unfolding following

@@ -8,46 +8,46 @@ enum-told : tie.Need-enum-told
 enum-told c = search needs
 
 start-mark-requires : tie.Need-start-mark-requires
-start-mark-requires c κs = search needs
+start-mark-requires c κs = tt
 
 enum-known-u : tie.Need-enum-known-u
 enum-known-u c = search needs
 
 flag-bit-requires : tie.Need-flag-bit-requires
-flag-bit-requires c κs = search needs
+flag-bit-requires c κs = tt
 
 less-one-requires : tie.Need-less-one-requires
-less-one-requires c κs = search needs
+less-one-requires c κs = tt
 
 not-counted-requires : tie.Need-not-counted-requires
-not-counted-requires c κs = search needs
+not-counted-requires c κs = tt
 
 sent-bit-requires : tie.Need-sent-bit-requires
-sent-bit-requires c κs = search needs
+sent-bit-requires c κs = tt
 
 enum-known-u-2 : tie.Need-enum-known-u-2
 enum-known-u-2 c = search needs
 
 byte-on-requires : tie.Need-byte-on-requires
-byte-on-requires c κs = search needs
+byte-on-requires c κs = tt
 
 enum-known-u-3 : tie.Need-enum-known-u-3
 enum-known-u-3 c = search needs
 
 check-on-requires : tie.Need-check-on-requires
-check-on-requires c κs = search needs
+check-on-requires c κs = tt
 
 enum-known-u-4 : tie.Need-enum-known-u-4
 enum-known-u-4 c = search needs
 
 less-one-requires-2 : tie.Need-less-one-requires-2
-less-one-requires-2 c κs = search needs
+less-one-requires-2 c κs = tt
 
 not-counted-requires-2 : tie.Need-not-counted-requires-2
-not-counted-requires-2 c κs = search needs
+not-counted-requires-2 c κs = tt
 
 sent-bit-requires-2 : tie.Need-sent-bit-requires-2
-sent-bit-requires-2 c κs = search needs
+sent-bit-requires-2 c κs = tt
 
 returns : tie.Need-returns
 returns c = simp (tests, c .before .enum-told .given .1) (c .start-mark .ensures)

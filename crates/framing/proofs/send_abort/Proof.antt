@@ -1,14 +1,13 @@
 -- `framing::send_abort` meets its contract: each return by the facts on its way. Assumes nothing.
 use Rattle.framing.proofs.Branch.{tests}
-use borrow.Author.Needs.{needs}
 use Rattle.framing.proofs.send_abort.Statement.{statement}
 use Rattle.framing.proofs.send_abort.Tie as tie
 
 aborting-requires : tie.Need-aborting-requires
-aborting-requires c κs = search needs
+aborting-requires c κs = tt
 
 cut-short-requires : tie.Need-cut-short-requires
-cut-short-requires c κs = search needs
+cut-short-requires c κs = tt
 
 returns : tie.Need-returns
 returns c = simp (tests, c .before .if1 .taken, ← c .before .before .before .aborting .ensures) (c .cut-short .ensures)

@@ -1,17 +1,16 @@
 -- `framing::start_byte` meets its contract: each return by the facts on its way. Assumes nothing.
 use Rattle.framing.proofs.Branch.{tests}
-use borrow.Author.Needs.{needs}
 use Rattle.framing.proofs.start_byte.Statement.{statement}
 use Rattle.framing.proofs.start_byte.Tie as tie
 
 counted-requires : tie.Need-counted-requires
-counted-requires c κs = search needs
+counted-requires c κs = tt
 
 entered-requires : tie.Need-entered-requires
-entered-requires c κs = search needs
+entered-requires c κs = tt
 
 emptied-requires : tie.Need-emptied-requires
-emptied-requires c κs = search needs
+emptied-requires c κs = tt
 
 returns : tie.Need-returns
 returns c = simp (tests, c .emptied .ensures, c .before .entered .ensures, c .before .before .counted .ensures)

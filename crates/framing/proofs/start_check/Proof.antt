@@ -8,10 +8,10 @@ mul-t6 : tie.Need-mul-t6
 mul-t6 c = search needs
 
 counted-requires : tie.Need-counted-requires
-counted-requires c κs = search needs
+counted-requires c κs = tt
 
 sent-bit-requires : tie.Need-sent-bit-requires
-sent-bit-requires c κs = search needs
+sent-bit-requires c κs = tt
 
 returns : tie.Need-returns
 returns c = simp (tests, ← c .before .counted .ensures) (c .sent-bit .ensures)

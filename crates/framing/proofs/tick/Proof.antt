@@ -1,19 +1,18 @@
 -- `framing::tick` meets its contract: each return by the facts on its way. Assumes nothing.
 use Rattle.framing.proofs.Branch.{tests}
 use Rattle.sdlc.specs.Sending.{tickSdlc}
-use borrow.Author.Needs.{needs}
 use Rattle.framing.proofs.tick.Statement.{statement}
 use Rattle.framing.proofs.tick.Tie as tie
 
 owed-zero-requires : tie.Need-owed-zero-requires
-owed-zero-requires c κs = search needs
+owed-zero-requires c κs = tt
 
 returns : tie.Need-returns
 unfolding tickSdlc
 returns c = simp (tests, c .before .if1 .taken) (c .owed-zero .ensures)
 
 going-requires : tie.Need-going-requires
-going-requires c κs = search needs
+going-requires c κs = tt
 
 returns-2 : tie.Need-returns-2
 unfolding tickSdlc

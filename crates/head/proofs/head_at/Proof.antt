@@ -31,7 +31,7 @@ shared-slice-read-wide : tie.Need-shared-slice-read-wide
 shared-slice-read-wide c = search needs
 
 wide-requires : tie.Need-wide-requires
-wide-requires c κs = search needs
+wide-requires c κs = tt
 
 mul-k : tie.Need-mul-k
 mul-k c = search needs
@@ -43,13 +43,13 @@ shared-slice-read-wide-2 : tie.Need-shared-slice-read-wide-2
 shared-slice-read-wide-2 c = search needs
 
 wide-requires-2 : tie.Need-wide-requires-2
-wide-requires-2 c κs = search needs
+wide-requires-2 c κs = tt
 
 add-k : tie.Need-add-k
 add-k c = search needs
 
 note-fits-requires : tie.Need-note-fits-requires
-note-fits-requires c κs = search needs
+note-fits-requires c κs = tt
 
 returns-3 : tie.Need-returns-3
 returns-3 c =

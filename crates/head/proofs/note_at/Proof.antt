@@ -6,7 +6,7 @@ use Rattle.head.proofs.note_at.Statement.{statement}
 use Rattle.head.proofs.note_at.Tie as tie
 
 head-at-requires : tie.Need-head-at-requires
-head-at-requires c κs = search needs
+head-at-requires c κs = tt
 
 enum-told : tie.Need-enum-told
 enum-told c = search needs

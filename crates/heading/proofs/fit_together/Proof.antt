@@ -17,7 +17,7 @@ add-note-fits : tie.Need-add-note-fits
 add-note-fits c = search needs
 
 note-fits-requires : tie.Need-note-fits-requires
-note-fits-requires c κs = search needs
+note-fits-requires c κs = tt
 
 returns-3 : tie.Need-returns-3
 returns-3 c = search needs

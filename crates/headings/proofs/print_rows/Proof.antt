@@ -14,13 +14,13 @@ abbrev μ-loop : tie.MeasureT-loop
 μ-loop list front from h i₀ number₀ i number = length list - i
 
 of-requires : tie.Need-of-requires Inv-loop μ-loop
-of-requires c κs = search needs
+of-requires c κs = tt
 
 loop-holds : tie.Need-loop-holds Inv-loop μ-loop
 loop-holds c = search needs
 
 head-at-requires : tie.Need-head-at-requires Inv-loop μ-loop
-head-at-requires c κs = search needs
+head-at-requires c κs = tt
 
 enum-known-head : tie.Need-enum-known-head Inv-loop μ-loop
 enum-known-head c = search needs
@@ -32,10 +32,10 @@ add-number : tie.Need-add-number Inv-loop μ-loop
 add-number c = search needs
 
 note-at-requires : tie.Need-note-at-requires Inv-loop μ-loop
-note-at-requires c κs = search needs
+note-at-requires c κs = tt
 
 print-row-requires : tie.Need-print-row-requires Inv-loop μ-loop
-print-row-requires c κs = search needs
+print-row-requires c κs = tt
 
 add-i : tie.Need-add-i Inv-loop μ-loop
 add-i c = let w = rw (c .before .before .before .head .given .1) at (c .before .before .before .before .before .head-at .ensures .1) in omega arith

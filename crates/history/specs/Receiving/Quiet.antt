@@ -25,7 +25,8 @@ use Rattle.channel.specs.Events.{dataWritten, transmitTick, linesSet}
 use Rattle.chip.specs.declared.Chip.{Chip}
 use Rattle.chip.specs.Event.{Event}
 use Rattle.stories.specs.Story.{Which, happens}
-use Rattle.history.specs.Tools.{refused-test, still-on}
+use Rattle.common.specs.Tools.{refused-test}
+use Rattle.history.specs.Tools.{still-on}
 use Rattle.history.specs.Quiet.{Test, quietBy, Part, KeptIn, Keeps, quiet-kept}
 use Rattle.history.specs.Receiving.Side.{part, sideOf}
 

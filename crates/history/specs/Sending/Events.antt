@@ -51,6 +51,12 @@ unfolding transmitCall transmitTick settled
 ticks-to f A c = refl
 ticks-to f B c = refl
 
+pub tick-pointer : (w : Which) (c : Chip)
+    → chan w (happens c (Transmit (number w)) .chip) .pointer ≡ chan w c .pointer
+unfolding transmitCall transmitTick settled
+tick-pointer A c = refl
+tick-pointer B c = refl
+
 pub tick-side : (w : Which) (c : Chip) → sideOf w c .heeds ≡ good
     → sideOf w (happens c (Transmit (number w)) .chip) ≡ side (tickedOf w c .framer) good
 tick-side w c e =

@@ -30,7 +30,8 @@ use Rattle.channel.specs.Events.{dataRead, receiveTick, linesSet}
 use Rattle.chip.specs.declared.Chip.{Chip}
 use Rattle.chip.specs.Event.{Event}
 use Rattle.stories.specs.Story.{Which, happens}
-use Rattle.history.specs.Tools.{refused-test, same-is, still-on}
+use Rattle.common.specs.Tools.{refused-test}
+use Rattle.history.specs.Tools.{same-is, still-on}
 use Rattle.history.specs.Quiet.{Test, quietBy, Part, KeptIn, Keeps, quiet-kept}
 use Rattle.history.specs.Sending.Side.{Heeded, heeded, SenderSide, side, part, sideOf}
 

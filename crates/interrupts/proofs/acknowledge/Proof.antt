@@ -1,18 +1,17 @@
 -- `interrupts::acknowledge` meets its contract: each return by the facts on its way. Assumes nothing.
 use Rattle.interrupts.proofs.Branch.{tests}
 use Rattle.interrupts.specs.Interrupts.{acknowledged}
-use borrow.Author.Needs.{needs}
 use Rattle.interrupts.proofs.acknowledge.Statement.{statement}
 use Rattle.interrupts.proofs.acknowledge.Tie as tie
 
 may-take-requires : tie.Need-may-take-requires
-may-take-requires c κs = search needs
+may-take-requires c κs = tt
 
 highest-requires : tie.Need-highest-requires
-highest-requires c κs = search needs
+highest-requires c κs = tt
 
 with-level-requires : tie.Need-with-level-requires
-with-level-requires c κs = search needs
+with-level-requires c κs = tt
 
 returns : tie.Need-returns
 unfolding acknowledged

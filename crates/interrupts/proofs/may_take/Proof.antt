@@ -1,14 +1,13 @@
 use Rattle.interrupts.proofs.Branch.{tests}
 use Rattle.interrupts.specs.Interrupts.{mayTake}
-use borrow.Author.Needs.{needs}
 use Rattle.interrupts.proofs.may_take.Statement.{statement}
 use Rattle.interrupts.proofs.may_take.Tie as tie
 
 highest-requires : tie.Need-highest-requires
-highest-requires c κs = search needs
+highest-requires c κs = tt
 
 highest-requires-2 : tie.Need-highest-requires-2
-highest-requires-2 c κs = search needs
+highest-requires-2 c κs = tt
 
 returns : tie.Need-returns
 unfolding mayTake

@@ -1,11 +1,10 @@
 -- `joining::check_of` meets its contract: preset, text, complement. Assumes nothing.
 use Rattle.joining.specs.Rule.{checkBy}
-use borrow.Author.Needs.{needs}
 use Rattle.joining.proofs.check_of.Statement.{statement}
 use Rattle.joining.proofs.check_of.Tie as tie
 
 check-text-requires : tie.Need-check-text-requires
-check-text-requires c κs = search needs
+check-text-requires c κs = tt
 
 returns : tie.Need-returns
 unfolding checkBy

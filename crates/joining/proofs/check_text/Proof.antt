@@ -5,7 +5,6 @@ use Prim.Native.Nat.{_-_}
 use native.Mathlib.Omega.{arith}
 use lib.ListN.{length, drop}
 use denote.Ref.{now}
-use borrow.Author.Needs.{needs}
 use Rattle.line.specs.Bits.{textBits}
 use Rattle.line.specs.Check.{checkOver}
 use Rattle.joining.specs.Laws.Rule.{text-step, text-none}
@@ -25,7 +24,7 @@ shared-slice-read-check-byte : tie.Need-shared-slice-read-check-byte Inv-loop μ
 shared-slice-read-check-byte c = omega arith
 
 check-byte-requires : tie.Need-check-byte-requires Inv-loop μ-loop
-check-byte-requires c κs = search needs
+check-byte-requires c κs = tt
 
 add-i : tie.Need-add-i Inv-loop μ-loop
 add-i c = omega arith

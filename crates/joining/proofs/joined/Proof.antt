@@ -3,12 +3,11 @@ use mathlib.Core.Path.{_≡_, sym, ap, _∙_}
 use lib.Bits.{bitXor}
 use Rattle.joining.specs.Join.{joinedBy}
 use Rattle.joining.specs.Laws.Join.{checks-join}
-use borrow.Author.Needs.{needs}
 use Rattle.joining.proofs.joined.Statement.{statement}
 use Rattle.joining.proofs.joined.Tie as tie
 
 advance-requires : tie.Need-advance-requires
-advance-requires c κs = search needs
+advance-requires c κs = tt
 
 returns : tie.Need-returns
 unfolding joinedBy

@@ -21,7 +21,7 @@ abbrev checked : ℕ → List ℕ
 checked m = bitXor m ones % 256 ∷ bitXor m ones / 256 ∷ []
 
 put-text-requires : tie.Need-put-text-requires
-put-text-requires c κs = search needs
+put-text-requires c κs = tt
 
 cast-t11 : tie.Need-cast-t11
 cast-t11 c = search needs
@@ -38,7 +38,7 @@ slice-aggregate-put-text : tie.Need-slice-aggregate-put-text
 slice-aggregate-put-text c = search needs
 
 put-text-requires-2 : tie.Need-put-text-requires-2
-put-text-requires-2 c κs = search needs
+put-text-requires-2 c κs = tt
 
 same-length : tie.Need-same-length
 same-length c = search needs

@@ -2,7 +2,6 @@
 -- all of them made from the first place, and so with the register. Assumes nothing.
 use native.Mathlib.Omega.{arith}
 use mathlib.Core.Path.{_≡_, refl, sym, ap, _∙_}
-use borrow.Author.Needs.{needs}
 use Prim.Native.Nat.{_-_}
 use lib.ListN.{length, drop}
 use denote.Ref.{now}
@@ -30,10 +29,10 @@ shared-slice-read-v : tie.Need-shared-slice-read-v Inv-loop μ-loop
 shared-slice-read-v c = omega arith
 
 put-byte-requires : tie.Need-put-byte-requires Inv-loop μ-loop
-put-byte-requires c κs = search needs
+put-byte-requires c κs = tt
 
 mirrored-byte-requires : tie.Need-mirrored-byte-requires Inv-loop μ-loop
-mirrored-byte-requires c κs = search needs
+mirrored-byte-requires c κs = tt
 
 add-i : tie.Need-add-i Inv-loop μ-loop
 add-i c = omega arith

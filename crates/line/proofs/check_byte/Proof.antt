@@ -1,7 +1,6 @@
 -- `line::check_byte` meets its contract: what the bits left make of the present register is what all eight make of the first. Assumes nothing.
 use mathlib.Core.Path.{_≡_, refl}
 use native.Mathlib.Omega.{arith}
-use borrow.Author.Needs.{needs}
 use Rattle.line.specs.Bits.{lowBits}
 use Rattle.line.specs.Check.{checkOver}
 use Rattle.line.specs.Laws.Bits.{low-step, low-none}
@@ -18,7 +17,7 @@ loop-holds : tie.Need-loop-holds Inv-loop μ-loop
 loop-holds c = refl
 
 check-step-requires : tie.Need-check-step-requires Inv-loop μ-loop
-check-step-requires c κs = search needs
+check-step-requires c κs = tt
 
 sub-left : tie.Need-sub-left Inv-loop μ-loop
 sub-left c = omega arith

@@ -7,7 +7,7 @@ use Rattle.line.proofs.check_step.Statement.{statement}
 use Rattle.line.proofs.check_step.Tie as tie
 
 at-the-top-requires : tie.Need-at-the-top-requires
-at-the-top-requires c κs = search needs
+at-the-top-requires c κs = tt
 
 mul-s : tie.Need-mul-s
 mul-s c = search needs

@@ -79,7 +79,7 @@ lowBits-fromLow (b ∷ bs) =
     rw (odd-joined (fromLow bs) b, half-joined (fromLow bs) b)
     (ap (λ (l : List Bool). b ∷ l) (lowBits-fromLow bs))
 
-bit-few : (b : Bool) → oneIf b ≤ 1
+pub bit-few : (b : Bool) → oneIf b ≤ 1
 bit-few true = omega arith
 bit-few false = omega arith
 

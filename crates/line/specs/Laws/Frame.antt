@@ -35,7 +35,7 @@ pub zeros-few : (note : List ℕ) → zerosOf note ≤ 8 * (length note + 2) / 5
 zeros-few note = omega (arith, zeros-bound 0 (contentOf note), content-length note)
 
 -- the content is the bits of the note's bytes and of the check's two
-byte-of : (bs : List Bool) → length bs ≡ 8 → lowBits 8 (fromLow bs) ≡ bs
+pub byte-of : (bs : List Bool) → length bs ≡ 8 → lowBits 8 (fromLow bs) ≡ bs
 byte-of bs e = rw e at (lowBits-fromLow bs)
 
 pub checkBytes-bits : (r : ℕ) → textBits 8 (checkBytes r) ≡ checkBits r

@@ -1,19 +1,18 @@
 -- `listening::hear` meets its contract: each return by the facts on its way. Assumes nothing.
 use Rattle.listening.proofs.Branch.{tests}
 use Rattle.sdlc.specs.Hearing.{hearSdlc}
-use borrow.Author.Needs.{needs}
 use Rattle.listening.proofs.hear.Statement.{statement}
 use Rattle.listening.proofs.hear.Tie as tie
 
 one-requires : tie.Need-one-requires
-one-requires c κs = search needs
+one-requires c κs = tt
 
 returns : tie.Need-returns
 unfolding hearSdlc
 returns c = simp (tests, c .before .if1 .taken) (c .one .ensures)
 
 zero-bit-requires : tie.Need-zero-bit-requires
-zero-bit-requires c κs = search needs
+zero-bit-requires c κs = tt
 
 returns-2 : tie.Need-returns-2
 unfolding hearSdlc

@@ -6,13 +6,13 @@ use Rattle.listening.proofs.one.Statement.{statement}
 use Rattle.listening.proofs.one.Tie as tie
 
 ones-counted-requires : tie.Need-ones-counted-requires
-ones-counted-requires c κs = search needs
+ones-counted-requires c κs = tt
 
 with-ones-requires : tie.Need-with-ones-requires
-with-ones-requires c κs = search needs
+with-ones-requires c κs = tt
 
 unheard-requires : tie.Need-unheard-requires
-unheard-requires c κs = search needs
+unheard-requires c κs = tt
 
 returns : tie.Need-returns
 unfolding one
@@ -22,10 +22,10 @@ add-with-ones : tie.Need-add-with-ones
 add-with-ones c = search needs
 
 with-ones-requires-2 : tie.Need-with-ones-requires-2
-with-ones-requires-2 c κs = search needs
+with-ones-requires-2 c κs = tt
 
 unheard-requires-2 : tie.Need-unheard-requires-2
-unheard-requires-2 c κs = search needs
+unheard-requires-2 c κs = tt
 
 returns-2 : tie.Need-returns-2
 unfolding one
@@ -35,17 +35,17 @@ add-push : tie.Need-add-push
 add-push c = search needs
 
 push-requires : tie.Need-push-requires
-push-requires c κs = search needs
+push-requires c κs = tt
 
 returns-3 : tie.Need-returns-3
 unfolding one
 returns-3 c = simp (tests, c .before .if3 .left, c .before .before .if2 .taken, c .before .before .before .if1 .left) (c .push .ensures)
 
 dropping-requires : tie.Need-dropping-requires
-dropping-requires c κs = search needs
+dropping-requires c κs = tt
 
 unheard-requires-3 : tie.Need-unheard-requires-3
-unheard-requires-3 c κs = search needs
+unheard-requires-3 c κs = tt
 
 returns-4 : tie.Need-returns-4
 unfolding one

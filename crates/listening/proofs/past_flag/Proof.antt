@@ -1,11 +1,10 @@
 -- `listening::past_flag` meets its contract: each return by the facts on its way. Assumes nothing.
 use Rattle.listening.proofs.Branch.{tests}
-use borrow.Author.Needs.{needs}
 use Rattle.listening.proofs.past_flag.Statement.{statement}
 use Rattle.listening.proofs.past_flag.Tie as tie
 
 at-requires : tie.Need-at-requires
-at-requires c κs = search needs
+at-requires c κs = tt
 
 returns : tie.Need-returns
 returns c = simp (tests, c .at .ensures)

@@ -6,7 +6,7 @@ use Rattle.listening.proofs.push.Statement.{statement}
 use Rattle.listening.proofs.push.Tie as tie
 
 bit-requires : tie.Need-bit-requires
-bit-requires c κs = search needs
+bit-requires c κs = tt
 
 mul-listener : tie.Need-mul-listener
 mul-listener c = search needs
@@ -15,10 +15,10 @@ add-listener : tie.Need-add-listener
 add-listener c = search needs
 
 listener-requires : tie.Need-listener-requires
-listener-requires c κs = search needs
+listener-requires c κs = tt
 
 unheard-requires : tie.Need-unheard-requires
-unheard-requires c κs = search needs
+unheard-requires c κs = tt
 
 returns : tie.Need-returns
 unfolding push
@@ -40,7 +40,7 @@ add-accept-2 : tie.Need-add-accept-2
 add-accept-2 c = search needs
 
 accept-requires : tie.Need-accept-requires
-accept-requires c κs = search needs
+accept-requires c κs = tt
 
 returns-2 : tie.Need-returns-2
 unfolding push

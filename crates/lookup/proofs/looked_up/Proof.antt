@@ -8,7 +8,7 @@ use Rattle.lookup.proofs.looked_up.Statement.{statement}
 use Rattle.lookup.proofs.looked_up.Tie as tie
 
 wide-requires : tie.Need-wide-requires
-wide-requires c κs = search needs
+wide-requires c κs = tt
 
 mul-size : tie.Need-mul-size
 mul-size c = search needs
@@ -17,7 +17,7 @@ element-copy-out-size : tie.Need-element-copy-out-size
 element-copy-out-size c = search needs
 
 size-requires : tie.Need-size-requires
-size-requires c κs = search needs
+size-requires c κs = tt
 
 returns : tie.Need-returns
 unfolding lookedUp

@@ -43,7 +43,7 @@ notes-holds c =
     (sym (scanned-walk (restFrom list firstNote)), omega arith, omega arith)
 
 head-at-requires : tie.Need-head-at-requires Inv-notes μ-notes
-head-at-requires c κs = search needs
+head-at-requires c κs = tt
 
 enum-told : tie.Need-enum-told Inv-notes μ-notes
 enum-told c = search needs

@@ -53,7 +53,7 @@ rest-bad list i k e = rw (rest-head list i, e)
 
 -- The scan's answer
 
-refused-apart : {A : Type 0} (k : Refusal) (n : ℕ) → Refused k ≡ Notes n → A
+pub refused-apart : {A : Type 0} (k : Refusal) (n : ℕ) → Refused k ≡ Notes n → A
 refused-apart k n e = let z : _≡_ {A = ℕ} 0 1 = cc in absurd (omega arith)
 
 -- what the scan refused is refused

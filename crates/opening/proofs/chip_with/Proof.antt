@@ -1,10 +1,9 @@
 -- `opening::chip_with` meets its contract. Assumes nothing.
-use borrow.Author.Needs.{needs}
 use Rattle.opening.proofs.chip_with.Statement.{statement}
 use Rattle.opening.proofs.chip_with.Tie as tie
 
 channel-with-requires : tie.Need-channel-with-requires
-channel-with-requires c κs = search needs
+channel-with-requires c κs = tt
 
 returns : tie.Need-returns
 returns c = rw (c .channel-with .ensures)

@@ -1,17 +1,16 @@
 -- `opening::flag_ended` meets its contract. Assumes nothing.
 use Rattle.drive.specs.Drive.{flagEnded}
-use borrow.Author.Needs.{needs}
 use Rattle.opening.proofs.flag_ended.Statement.{statement}
 use Rattle.opening.proofs.flag_ended.Tie as tie
 
 prepared-requires : tie.Need-prepared-requires
-prepared-requires c κs = search needs
+prepared-requires c κs = tt
 
 ticks-to-flag-requires : tie.Need-ticks-to-flag-requires
-ticks-to-flag-requires c κs = search needs
+ticks-to-flag-requires c κs = tt
 
 ticked-requires : tie.Need-ticked-requires
-ticked-requires c κs = search needs
+ticked-requires c κs = tt
 
 returns : tie.Need-returns
 unfolding flagEnded

@@ -1,20 +1,19 @@
 -- `opening::open_frame` meets its contract. Assumes nothing.
 use Rattle.drive.specs.Drive.{frameOpened}
-use borrow.Author.Needs.{needs}
 use Rattle.opening.proofs.open_frame.Statement.{statement}
 use Rattle.opening.proofs.open_frame.Tie as tie
 
 flag-ended-requires : tie.Need-flag-ended-requires
-flag-ended-requires c κs = search needs
+flag-ended-requires c κs = tt
 
 control-requires : tie.Need-control-requires
-control-requires c κs = search needs
+control-requires c κs = tt
 
 control-requires-2 : tie.Need-control-requires-2
-control-requires-2 c κs = search needs
+control-requires-2 c κs = tt
 
 write-requires : tie.Need-write-requires
-write-requires c κs = search needs
+write-requires c κs = tt
 
 returns : tie.Need-returns
 unfolding frameOpened

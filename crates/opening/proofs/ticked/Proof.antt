@@ -6,7 +6,6 @@ use native.Mathlib.Omega.{arith}
 use Rattle.chip.specs.Chip.{transmitCall}
 use Rattle.drive.specs.Drive.{tickA, driven}
 use Rattle.drive.specs.Laws.Frame.{driven-step, driven-none}
-use borrow.Author.Needs.{needs}
 use Rattle.opening.proofs.ticked.Statement.{statement}
 use Rattle.opening.proofs.ticked.Tie as tie
 
@@ -20,7 +19,7 @@ loop-holds : tie.Need-loop-holds Inv-loop μ-loop
 loop-holds c = refl
 
 transmit-tick-requires : tie.Need-transmit-tick-requires Inv-loop μ-loop
-transmit-tick-requires c κs = search needs
+transmit-tick-requires c κs = tt
 
 sub-left : tie.Need-sub-left Inv-loop μ-loop
 sub-left c = omega arith

@@ -10,7 +10,7 @@ enum-known-u : tie.Need-enum-known-u
 enum-known-u c = search needs
 
 wide-requires : tie.Need-wide-requires
-wide-requires c κs = search needs
+wide-requires c κs = tt
 
 enum-known-u-2 : tie.Need-enum-known-u-2
 enum-known-u-2 c = search needs
@@ -22,7 +22,7 @@ enum-known-u-4 : tie.Need-enum-known-u-4
 enum-known-u-4 c = search needs
 
 wide-requires-2 : tie.Need-wide-requires-2
-wide-requires-2 c κs = search needs
+wide-requires-2 c κs = tt
 
 add-result : tie.Need-add-result
 add-result c = search needs

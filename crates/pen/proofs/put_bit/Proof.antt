@@ -11,7 +11,7 @@ use Rattle.pen.proofs.put_bit.Statement.{statement}
 use Rattle.pen.proofs.put_bit.Tie as tie
 
 counted-requires : tie.Need-counted-requires
-counted-requires c κs = search needs
+counted-requires c κs = tt
 
 slice-write-out : tie.Need-slice-write-out
 unfolding stuff

@@ -3,7 +3,6 @@
 use native.Mathlib.Omega.{arith}
 use mathlib.Core.Path.{_≡_, refl, sym, ap, _∙_}
 use mathlib.Core.List.{[], _∷_}
-use borrow.Author.Needs.{needs}
 use Prim.Native.Nat.{_-_, _/_}
 use borrow.Author.Tests.{ltb-true, ltb-false}
 use lib.ListN.{length}
@@ -22,7 +21,7 @@ abbrev μ-loop : tie.MeasureT-loop
 μ-loop out₀ v q₀ rest₀ left₀ out q rest left = left
 
 lacks-cells-requires : tie.Need-lacks-cells-requires Inv-loop μ-loop
-lacks-cells-requires c κs = search needs
+lacks-cells-requires c κs = tt
 
 returns : tie.Need-returns Inv-loop μ-loop
 returns c =

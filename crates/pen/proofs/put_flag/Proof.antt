@@ -4,7 +4,6 @@ use native.Mathlib.Omega.{arith}
 use mathlib.Core.Path.{_≡_, refl, sym, ap, _∙_}
 use mathlib.Core.Bool.{Bool}
 use mathlib.Core.List.{List}
-use borrow.Author.Needs.{needs}
 use Prim.Native.Nat.{_+_}
 use denote.Ref.{now}
 use lib.ListN.{length, length-set}
@@ -24,7 +23,7 @@ abbrev μ-loop : tie.MeasureT-loop
 μ-loop out₀ at i₀ rest₀ left₀ out i rest left = left
 
 room-from-requires : tie.Need-room-from-requires Inv-loop μ-loop
-room-from-requires c κs = search needs
+room-from-requires c κs = tt
 
 returns : tie.Need-returns Inv-loop μ-loop
 returns c =

@@ -18,7 +18,6 @@ use Rattle.flags.specs.Flags.{withNote, inAll}
 use Rattle.report.specs.Report.{noteTicks, reportOf, pagesOf}
 use Rattle.report.specs.Laws.Notes.{next-note, walk-next, walk-last}
 use Rattle.report.specs.Laws.Ticks.{ticks-few, noteTicks-fits, pages-walk}
-use borrow.Author.Needs.{needs}
 use Rattle.report.proofs.list_ticks.Statement.{statement}
 use Rattle.report.proofs.list_ticks.Tie as tie
 
@@ -40,10 +39,10 @@ loop-holds c =
     )
 
 note-at-requires : tie.Need-note-at-requires Inv-loop μ-loop
-note-at-requires c κs = search needs
+note-at-requires c κs = tt
 
 note-ticks-requires : tie.Need-note-ticks-requires Inv-loop μ-loop
-note-ticks-requires c κs = search needs
+note-ticks-requires c κs = tt
 
 add-sum : tie.Need-add-sum Inv-loop μ-loop
 add-sum c =
@@ -101,7 +100,7 @@ loop-again c =
     )
 
 in-all-requires : tie.Need-in-all-requires Inv-loop μ-loop
-in-all-requires c κs = search needs
+in-all-requires c κs = tt
 
 returns : tie.Need-returns Inv-loop μ-loop
 returns c =

@@ -7,7 +7,7 @@ use Rattle.report.proofs.page_ticks.Statement.{statement}
 use Rattle.report.proofs.page_ticks.Tie as tie
 
 scan-requires : tie.Need-scan-requires
-scan-requires c κs = search needs
+scan-requires c κs = tt
 
 enum-known-s : tie.Need-enum-known-s
 enum-known-s c = search needs

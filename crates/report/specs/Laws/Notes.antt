@@ -13,13 +13,10 @@ use Rattle.notes.specs.declared.Scanned.the-variants.{Notes, Refused}
 use Rattle.head.specs.NoteHead.{lengthBytes, lengthAt, textAt, headOf, noteAt}
 use Rattle.notes.specs.NoteList.{Reading, whole, refuses, inFront, readHead, restFrom, scanned}
 use Rattle.notes.specs.NoteList.{walk}
-use Rattle.notes.specs.Laws.Reading.{rest-head}
+use Rattle.notes.specs.Laws.Reading.{rest-head, refused-apart}
 use Rattle.head.specs.Laws.{noteAt-note}
 use Rattle.head.specs.Laws.{head-elim, textAt-length}
 use Rattle.notes.specs.Laws.Reading.{walk-end, walk-note}
-
-apart : {A : Type 0} (k : Refusal) (n : ℕ) → Refused k ≡ Notes n → A
-apart k n e = let z : _≡_ {A = ℕ} 0 1 = cc in absurd (omega arith)
 
 same-count : {m n : ℕ} → Notes m ≡ Notes n → m ≡ n
 same-count e = cc
@@ -42,7 +39,7 @@ next-note list i n some e =
     λ h. headOf list i ≡ h → scanned (readFromHead list i h) ≡ Notes n → Next list i (n - 1) in
     head-elim P list i
     (λ past h c. absurd (omega (arith, some, same-count c)))
-    (λ k h c. apart k n c)
+    (λ k h c. refused-apart k n c)
     (λ fits here h c.
     let k = lengthAt list i in
     let long = ap length (noteAt-note list i k h) ∙ textAt-length list i k here in
@@ -60,19 +57,19 @@ next-note list i n some e =
         → scanned r ≡ Notes (n - 1)
     one-less note (whole notes) c =
         let m : length notes ≡ n - 1 = omega (arith, same-count c) in ap Notes m
-    one-less note (refuses k) c = apart k n c
+    one-less note (refuses k) c = refused-apart k n c
 
 no-note : (list : List ℕ) (i : ℕ) → scanned (restFrom list i) ≡ Notes 0 → headOf list i ≡ End
 no-note list i e =
     head-elim (λ h. scanned (readFromHead list i h) ≡ Notes 0 → h ≡ End) list i
-    (λ past c. refl) (λ k c. apart k 0 c)
+    (λ past c. refl) (λ k c. refused-apart k 0 c)
     (λ fits here c.
     let k = lengthAt list i in some (textAt list i k) (restFrom list (i + lengthBytes + k)) c)
     (sym (ap scanned (rest-head list i)) ∙ e)
   where
     some : {A : Type 0} (note : List ℕ) (r : Reading) → scanned (inFront note r) ≡ Notes 0 → A
     some note (whole notes) c = absurd (omega (arith, same-count c))
-    some note (refuses k) c = apart k 0 c
+    some note (refuses k) c = refused-apart k 0 c
 
 -- the loop's turn and its end, as a walk
 module _ {S A : Type 0} (step : S → List ℕ → S) (finish : S → A) (refused : Refusal → A) where

@@ -17,6 +17,7 @@ use Rattle.line.specs.Frame.{zerosOf, ticksOf}
 use Rattle.line.specs.Line.{noteFits}
 use Rattle.zeros.specs.Zeros.{countOf}
 use Rattle.line.specs.Laws.Frame.{ticks-are, zeros-few}
+use Rattle.line.specs.Laws.Line.{fits-few}
 use Rattle.flags.specs.declared.Between.{Between}
 use Rattle.flags.specs.Flags.{withNote, inAll}
 use Rattle.notes.specs.declared.Scanned.the-variants.{Notes}
@@ -26,15 +27,10 @@ use Rattle.report.specs.Report.{noteTicks, reported, pagesOf}
 
 -- A note that fits
 
-pub fits-bounds : (n : ℕ) → noteFits n ≡ true → (1 ≤ n) × (n ≤ 2048)
-fits-bounds n e =
-    eqb-elim (λ b. (not b && leb n 2048) ≡ true → (1 ≤ n) × (n ≤ 2048)) n 0 (λ z f. void f)
-    (λ z f. (omega arith, leb-true n 2048 f)) e
-
 -- it takes as many ticks as its bits and its zeros, which are few
 pub ticks-few : (note : List ℕ) → noteFits (length note) ≡ true → ticksOf note ≤ 19696
 ticks-few note e =
-    let b = fits-bounds (length note) e in omega (arith, ticks-are note, zeros-few note, b .1)
+    let b = fits-few (length note) e in omega (arith, ticks-are note, zeros-few note, b .1)
 
 pub noteTicks-fits : (note : List ℕ) → noteFits (length note) ≡ true → noteTicks note ≡ ticksOf note
 noteTicks-fits note e = rw e

@@ -1,30 +1,29 @@
 -- `script::shown` meets its contract: each return by the facts on its way. Assumes nothing.
 use Rattle.script.proofs.Branch.{tests}
 use Rattle.script.specs.Shown.{shown}
-use borrow.Author.Needs.{needs}
 use Rattle.script.proofs.shown.Statement.{statement}
 use Rattle.script.proofs.shown.Tie as tie
 
 number-requires : tie.Need-number-requires
-number-requires c κs = search needs
+number-requires c κs = tt
 
 value-requires : tie.Need-value-requires
-value-requires c κs = search needs
+value-requires c κs = tt
 
 register-requires : tie.Need-register-requires
-register-requires c κs = search needs
+register-requires c κs = tt
 
 register-requires-2 : tie.Need-register-requires-2
-register-requires-2 c κs = search needs
+register-requires-2 c κs = tt
 
 register-requires-3 : tie.Need-register-requires-3
-register-requires-3 c κs = search needs
+register-requires-3 c κs = tt
 
 register-requires-4 : tie.Need-register-requires-4
-register-requires-4 c κs = search needs
+register-requires-4 c κs = tt
 
 register-requires-5 : tie.Need-register-requires-5
-register-requires-5 c κs = search needs
+register-requires-5 c κs = tt
 
 returns : tie.Need-returns
 unfolding shown

@@ -1,19 +1,18 @@
 -- `script::step` meets its contract: each return by the facts on its way. Assumes nothing.
 use Rattle.script.proofs.Branch.{tests}
 use Rattle.script.specs.Step.{step}
-use borrow.Author.Needs.{needs}
 use Rattle.script.proofs.step.Statement.{statement}
 use Rattle.script.proofs.step.Tie as tie
 
 named-requires : tie.Need-named-requires
-named-requires c κs = search needs
+named-requires c κs = tt
 
 returns : tie.Need-returns
 unfolding step
 returns c = simp (tests, c .before .if1 .taken) (c .named .ensures)
 
 unnamed-requires : tie.Need-unnamed-requires
-unnamed-requires c κs = search needs
+unnamed-requires c κs = tt
 
 returns-2 : tie.Need-returns-2
 unfolding step

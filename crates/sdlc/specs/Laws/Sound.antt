@@ -25,6 +25,7 @@ use Rattle.sdlc.specs.Sending.{paid, following, next, going, tickSdlc, a
 use Rattle.sdlc.specs.Hearing.{fullDelay, contentAt, withOnes, lastBit, spilled, oldestBit}
 use Rattle.sdlc.specs.Hearing.{wrong, accept, push, deaf, one, zeroBit, hearSdlc}
 use Rattle.sdlc.specs.Sound.{SoundUnit, SoundContent}
+use Rattle.line.specs.Laws.Bits.{bit-few}
 
 -- Sending
 
@@ -103,10 +104,6 @@ ones-sound : (s : Listener) (o : ℕ) (x : Bool) → o ≤ 7 → SoundContent (s
     → SoundContent (withOnes s o x .content)
 ones-sound s o x l t = record { run = l; led = t .led; fits = t .fits; part = t .part }
 
-oneIf-le : (b : Bool) → oneIf b ≤ 1
-oneIf-le true = omega arith
-oneIf-le false = omega arith
-
 accept-sound : (g : Addressing) (c : Chars) (k o : ℕ) (x : Bool) (d : ℕ) (b : Bool)
     → o ≤ 7 → 1 ≤ d → d ≤ 255 → SoundListened (accept g c k o x d b)
 unfolding accept
@@ -131,11 +128,11 @@ module _ (g : Addressing) (s : Listener) (t : SoundContent (s .content)) where
       (λ e. record {
         run = a;
         led = omega (arith, t .led);
-        fits = omega (arith, ltb-true d fullDelay e, oneIf-le b);
+        fits = omega (arith, ltb-true d fullDelay e, bit-few b);
         part = t .part;
       })
       (λ e. accept-sound g (s .content .chars) (s .check) o x (spilled d b) (oldestBit d) a
-      (omega arith) (omega (arith, oneIf-le b)))
+      (omega arith) (omega (arith, bit-few b)))
 
   one-sound : SoundListened (one g s)
   unfolding one

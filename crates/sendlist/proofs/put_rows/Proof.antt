@@ -1,13 +1,13 @@
--- `sendlist::put_rows` is safe and ends. Assumes nothing.
-use borrow.Author.Needs.{needs}
-use Prim.Native.Nat.{_-_}
-use lib.ListN.{length}
+-- `sendlist::put_rows` is safe and ends: the place is always within the lent part. Assumes nothing.
 use mathlib.Core.Path.{_≡_}
+use Prim.Native.Nat.{_-_, _≤_}
+use lib.ListN.{length}
+use borrow.Author.Needs.{needs}
 use Rattle.sendlist.proofs.put_rows.Statement.{statement}
 use Rattle.sendlist.proofs.put_rows.Tie as tie
 
 abbrev Inv-loop : tie.InvT-loop
-Inv-loop out₀ rows notes at₀ j₀ out at j = length out ≡ length out₀
+Inv-loop out₀ rows notes at₀ j₀ out at j = (length out ≡ length out₀) × (at ≤ length out₀)
 
 abbrev μ-loop : tie.MeasureT-loop
 μ-loop out₀ rows notes at₀ j₀ out at j = length rows - j
@@ -21,6 +21,9 @@ same-length c = search needs
 returns : tie.Need-returns Inv-loop μ-loop
 returns c = search needs
 
+room-made-requires : tie.Need-room-made-requires Inv-loop μ-loop
+room-made-requires c κs = search needs
+
 mul-put-number : tie.Need-mul-put-number Inv-loop μ-loop
 mul-put-number c = search needs
 
@@ -28,13 +31,10 @@ shared-slice-read-put-number : tie.Need-shared-slice-read-put-number Inv-loop μ
 shared-slice-read-put-number c = search needs
 
 behind-requires : tie.Need-behind-requires Inv-loop μ-loop
-behind-requires c κs = search needs
+behind-requires c κs = tt
 
 put-number-requires : tie.Need-put-number-requires Inv-loop μ-loop
 put-number-requires c κs = search needs
-
-flush-full-requires : tie.Need-flush-full-requires Inv-loop μ-loop
-flush-full-requires c κs = search needs
 
 add-j : tie.Need-add-j Inv-loop μ-loop
 add-j c = search needs
@@ -60,11 +60,11 @@ put-rows-spec =
     loop-holds
     same-length
     returns
+    room-made-requires
     mul-put-number
     shared-slice-read-put-number
     behind-requires
     put-number-requires
-    flush-full-requires
     add-j
     loop-less
     loop-again

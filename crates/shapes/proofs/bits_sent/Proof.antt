@@ -1,12 +1,11 @@
 -- `shapes::bits_sent` meets its contract: each return by the facts on its way. Assumes nothing.
 use Rattle.shapes.proofs.Branch.{tests}
 use Rattle.shapes.specs.Sent.{bitsSent}
-use borrow.Author.Needs.{needs}
 use Rattle.shapes.proofs.bits_sent.Statement.{statement}
 use Rattle.shapes.proofs.bits_sent.Tie as tie
 
 shape-bits-requires : tie.Need-shape-bits-requires
-shape-bits-requires c κs = search needs
+shape-bits-requires c κs = tt
 
 returns : tie.Need-returns
 unfolding bitsSent

@@ -3,7 +3,6 @@ use mathlib.Core.Path.{_≡_, refl}
 use native.Mathlib.Omega.{arith}
 use Rattle.line.specs.Bits.{lowBits}
 use Rattle.shapes.specs.Sent.{oddOver}
-use borrow.Author.Needs.{needs}
 use Rattle.line.specs.Laws.Bits.{low-step, low-none}
 use Rattle.shapes.proofs.parity_bit.Statement.{statement}
 use Rattle.shapes.proofs.parity_bit.Tie as tie
@@ -15,7 +14,7 @@ abbrev μ-loop : tie.MeasureT-loop
 μ-loop even length v odd₀ rest₀ left₀ odd rest left = left
 
 bits-sent-requires : tie.Need-bits-sent-requires Inv-loop μ-loop
-bits-sent-requires c κs = search needs
+bits-sent-requires c κs = tt
 
 loop-holds : tie.Need-loop-holds Inv-loop μ-loop
 loop-holds c = refl

@@ -1,34 +1,144 @@
--- `station::send_list` meets its contract. Assumes nothing.
-use mathlib.Core.Path.{refl, sym, _∙_}
+-- `station::send_list` meets its contract: what has been sent and told so far, walked over the rest of the
+-- list, is always the whole report (specs/Laws/Walk.antt). Assumes nothing.
+use mathlib.Core.Path.{_≡_, ap, _∙_}
+use mathlib.Core.List.{List}
+use Prim.Native.Nat.{ℕ, _+_, _-_, _*_}
+use native.Mathlib.Omega.{arith}
+use lib.ListN.{length}
 use denote.Ref.{now}
-use Rattle.notes.specs.Laws.Reading.{scanned-refuses}
-use borrow.Author.Needs.{needs}
+use Rattle.line.specs.Line.{noteFits}
+use Rattle.notes.specs.declared.Scanned.{Scanned}
+use Rattle.drive.specs.Drive.{sentBy}
+use Rattle.report.specs.Report.{rowOf, toldAt}
+use Rattle.told.specs.declared.Listed.{Listed}
+use Rattle.listline.specs.ListLine.{beforeNote}
+use Rattle.station.specs.declared.walk.Walk.{Walk}
+use Rattle.station.specs.Fed.{feeds}
+use Rattle.station.specs.Station.{listSent}
+use Rattle.station.specs.Walk.{atFirst, walkedOn, listedBy}
+use Rattle.station.specs.Laws.Walk.{WalkedList, Loop, loop-starts, loop-turns, loop-ends}
+use Rattle.station.specs.Laws.Walk.{next, room, notes-small, at-small, sum-small}
 use Rattle.station.proofs.send_list.Statement.{statement}
 use Rattle.station.proofs.send_list.Tie as tie
 
-scan-requires : tie.Need-scan-requires
-scan-requires c κs = search needs
+abbrev Inv-loop : tie.InvT-loop
+Inv-loop c₀ list rows₀ between s w₀ c rows w = Loop between c₀ rows₀ list c rows w
 
-enum-known-s : tie.Need-enum-known-s
-enum-known-s c = search needs
+abbrev μ-loop : tie.MeasureT-loop
+μ-loop c₀ list rows₀ between s w₀ c rows w = w .all - w .notes
 
-send-notes-requires : tie.Need-send-notes-requires
-send-notes-requires c κs = sym (c .before .before .before .before .scan .ensures) ∙ c .before .before .s .given .1
+scan-requires : tie.Need-scan-requires Inv-loop μ-loop
+scan-requires c κs = tt
 
-enum-known-s-2 : tie.Need-enum-known-s-2
-enum-known-s-2 c = search needs
+start-requires : tie.Need-start-requires Inv-loop μ-loop
+start-requires c κs = tt
 
-same-length : tie.Need-same-length
-same-length c = search needs
+loop-holds : tie.Need-loop-holds Inv-loop μ-loop
+loop-holds c =
+    let a = c .before .before .before .before .args in
+    let list = now (a .list) in
+    let rows = now (a .rows) in
+    rw (c .start .ensures) (loop-starts (a .between) (a .c) rows list (c .before .scan .result) (c .before .scan .ensures))
 
-returns : tie.Need-returns
-returns c = c .before .before .send-notes .ensures
+note-at-requires : tie.Need-note-at-requires Inv-loop μ-loop
+note-at-requires c κs = tt
 
-returns-2 : tie.Need-returns-2
-returns-2 c =
-    let s = c .before .before .before .before .before .before in
-    let e = scanned-refuses (now (s .args .list)) _ (sym (c .before .before .before .scan .ensures) ∙ c .before .s2 .given .1) in
-    rw e (refl, refl)
+open-next-requires : tie.Need-open-next-requires Inv-loop μ-loop
+open-next-requires c κs =
+    let a = c .before .before .before .before .before .before .before .before .args in
+    let l = c .before .before .before .loop in
+    let x = next (a .between) (a .c) (now (a .rows)) (now (a .list)) (l .inv) (c .before .if1 .taken) in
+    ap (λ (t : List ℕ). noteFits (length t)) (c .note-at .ensures) ∙ x .fits
+
+feed-rest-requires : tie.Need-feed-rest-requires Inv-loop μ-loop
+feed-rest-requires c κs = open-next-requires (c .before) κs
+
+chip-with-requires : tie.Need-chip-with-requires Inv-loop μ-loop
+chip-with-requires c κs = tt
+
+on-requires : tie.Need-on-requires Inv-loop μ-loop
+on-requires c κs =
+    let fed = c .before .before in
+    let d = fed .before in
+    let s = d .before .before .before .before .before .before .before .before .before in
+    let a = s .args in
+    let l = d .before .before .before .before .loop in
+    let more = d .before .before .if1 .taken in
+    let lent = now (a .rows) in
+    let list = now (a .list) in
+    let fits = open-next-requires (d .before) (s .κs .0, tt) in
+    let f = feeds (beforeNote (a .between) (l .w .notes) (l .c)) (now (d .before .note-at .result)) (d .open-next .result)
+    (fed .feed-rest .result) fits (d .open-next .ensures) (fed .feed-rest .ensures) in (
+      fits,
+      (
+        f .ticks,
+        (
+          room (a .between) (a .c) lent list (l .inv) more,
+          (
+            notes-small (a .between) (a .c) lent list (l .inv) more,
+            (at-small (a .between) (a .c) lent list (l .inv) more, sum-small (a .between) (a .c) lent list (l .inv) more),
+          ),
+        ),
+      ),
+    )
+
+loop-less : tie.Need-loop-less Inv-loop μ-loop
+loop-less c =
+    let on = c .before .before .on .ensures .0 in
+    let more = c .before .before .before .before .before .before .before .before .if1 .taken in
+    omega (arith, more, ap (λ (w : Walk). w .notes) on, ap (λ (w : Walk). w .all) on)
+
+loop-again : tie.Need-loop-again Inv-loop μ-loop
+loop-again c =
+    let fed = c .before .before .before .before .before in
+    let d = fed .before in
+    let s = d .before .before .before .before .before .before .before .before .before in
+    let a = s .args in
+    let l = d .before .before .before .before .loop in
+    let w = l .w in
+    let text = d .before .note-at .ensures in
+    let chip = beforeNote (a .between) (w .notes) (l .c) in
+    let f = feeds chip (now (d .before .note-at .result)) (d .open-next .result) (fed .feed-rest .result)
+    (open-next-requires (d .before) (s .κs .0, tt)) (d .open-next .ensures) (fed .feed-rest .ensures) in
+    let on = c .before .before .on .ensures in
+    loop-turns (a .between) (a .c) (now (a .rows)) (now (a .list)) (l .inv) (d .before .before .if1 .taken)
+    (c .before .before .before .before .chip-with .ensures ∙ f .chip ∙ ap (sentBy chip) text)
+    (on .0 ∙ ap (walkedOn w) text)
+    (on .1 ∙ ap (λ (t : List ℕ). toldAt (w .told) (l .rows) (4 * w .notes) (rowOf (w .notes + 1) t)) text)
+
+listed-requires : tie.Need-listed-requires Inv-loop μ-loop
+listed-requires c κs = tt
+
+same-length : tie.Need-same-length Inv-loop μ-loop
+same-length c = c .before .before .before .loop .inv .size
+
+returns : tie.Need-returns Inv-loop μ-loop
+returns c =
+    let l = c .before .before .before .loop in
+    let begun = c .before .before .before .before in
+    let a = begun .before .before .before .before .args in
+    let e = loop-ends (a .between) (a .c) (now (a .rows)) (now (a .list)) (l .inv) (c .before .if1 .left) in
+    let told = c .listed .ensures ∙ ap (λ (r : Scanned). listedBy (l .w) r (a .between)) (begun .before .scan .ensures) in (
+      ap (λ (y : Listed). listSent y (l .c)) told ∙ ap (λ (y : WalkedList). listSent (y .answer) (y .chip)) e,
+      ap (λ (y : WalkedList). y .rows) e,
+    )
 
 pub send-list-spec : {M : Type 1} → statement M
-send-list-spec = tie.close (tie.spec scan-requires enum-known-s send-notes-requires enum-known-s-2 same-length returns returns-2)
+send-list-spec =
+    tie.close
+    (tie.spec
+    Inv-loop
+    μ-loop
+    scan-requires
+    start-requires
+    loop-holds
+    note-at-requires
+    open-next-requires
+    feed-rest-requires
+    chip-with-requires
+    on-requires
+    loop-less
+    loop-again
+    listed-requires
+    same-length
+    returns)

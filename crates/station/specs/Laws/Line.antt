@@ -17,7 +17,7 @@ use Rattle.listline.specs.ListLine.{lineAfter}
 use Rattle.listline.specs.Laws.Fits.{read-fits}
 use Rattle.listline.specs.Laws.Line.{list-line, list-line-reset}
 use Rattle.report.specs.Report.{reported, reportOf}
-use Rattle.station.specs.declared.Listed.the-variants as listed
+use Rattle.told.specs.declared.Listed.the-variants as listed
 use Rattle.station.specs.Station.{listedOf}
 
 module _ (between : Between) (list : List ℕ) (note : List ℕ) (notes : List (List ℕ))

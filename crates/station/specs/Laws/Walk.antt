@@ -1,8 +1,8 @@
 -- A walk over a list, note by note, gives the whole report. Assumes nothing.
-use mathlib.Core.Path.{_≡_, refl, sym, ap, _∙_}
+use mathlib.Core.Path.{_≡_, refl, sym, ap, subst, _∙_}
 use mathlib.Core.Bool.{Bool, true, false}
 use mathlib.Core.List.{List, [], _∷_, foldl}
-use Prim.Native.Nat.{ℕ, suc, _+_, _*_, _/_, _≤_, _<_}
+use Prim.Native.Nat.{ℕ, suc, _+_, _-_, _*_, _/_, _≤_, _<_}
 use native.Mathlib.Omega.{arith}
 use native.Mathlib.Nat.{add-zero}
 use lib.Dec.{eqb}
@@ -14,15 +14,25 @@ use Rattle.common.specs.declared.Refusal.{Refusal}
 use Rattle.line.specs.Frame.{zerosOf, ticksOf}
 use Rattle.flags.specs.declared.Between.{Between}
 use Rattle.flags.specs.Flags.{withNote, inAll, totalTicks}
-use Rattle.notes.specs.declared.Scanned.the-variants.{Notes}
-use Rattle.notes.specs.NoteList.{Reading, whole, refuses, scanned, walk}
+use Rattle.head.specs.NoteHead.{noteAt}
+use Rattle.notes.specs.declared.Scanned.{Scanned}
+use Rattle.notes.specs.declared.Scanned.the-variants.{Notes, Refused}
+use Rattle.notes.specs.Scanned.{scannedNotes}
+use Rattle.notes.specs.NoteList.{Reading, whole, refuses, restFrom, readList, scanned, walk}
+use Rattle.notes.specs.Laws.Reading.{scanned-rest, scanned-size}
 use Rattle.chip.specs.declared.Chip.{Chip}
 use Rattle.drive.specs.Drive.{sentBy}
 use Rattle.listline.specs.ListLine.{flagged, sentNext, sentAll, beforeNote, chipAfter}
-use Rattle.report.specs.Report.{rowOf, rowLength, rowsFrom, reported, hasRoom, toldAt, rowsIn}
-use Rattle.station.specs.declared.Listed.{Listed}
-use Rattle.station.specs.declared.Listed.the-variants as listed
-use Rattle.station.specs.Station.{listedOf, Room}
+use Rattle.report.specs.Report.{rowOf, rowLength, rowsFrom, reported, reportOf, hasRoom}
+use Rattle.report.specs.Report.{toldAt, rowsIn}
+use Rattle.report.specs.Laws.Notes.{Next, next-note, walk-next, walk-last}
+use Rattle.line.specs.Laws.Line.{fits-few}
+use Rattle.report.specs.Laws.Ticks.{ticks-few}
+use Rattle.told.specs.declared.Listed.{Listed}
+use Rattle.told.specs.declared.Listed.the-variants as listed
+use Rattle.station.specs.declared.walk.Walk.{Walk}
+use Rattle.station.specs.Station.{listedOf}
+use Rattle.station.specs.Walk.{atFirst, walkedOn, listedBy, Room}
 
 -- What a walk has done so far, and what it comes to
 
@@ -106,7 +116,7 @@ module _ (between : Between) where
 
   -- of a list that the scan accepted, with the rows told if the lent part has room for those of its
   -- notes
-  pub sent-walk : (c : Chip) (lent : List ℕ) (n : ℕ) (r : Reading) → scanned r ≡ Notes n
+  sent-walk : (c : Chip) (lent : List ℕ) (n : ℕ) (r : Reading) → scanned r ≡ Notes n
       → walk (oneSent between (hasRoom n lent)) (allSent between) (noneSent c lent)
       (walked c 0 0 lent) r
       ≡ walkedList (listedOf (reported between r)) (chipAfter between c r)
@@ -130,7 +140,7 @@ module _ (between : Between) where
 -- A row
 
 -- one that is told has room
-pub room-for : (n notes : ℕ) (lent rows : List ℕ) → notes + 1 ≤ n → length rows ≡ length lent
+room-for : (n notes : ℕ) (lent rows : List ℕ) → notes + 1 ≤ n → length rows ≡ length lent
     → Room (hasRoom n lent) (rowLength * notes) rows
 room-for n notes lent rows l e = go (hasRoom n lent) refl
   where
@@ -138,23 +148,166 @@ room-for n notes lent rows l e = go (hasRoom n lent) refl
     go true f = omega (arith, leb-true n (length lent / rowLength) f)
     go false f = tt
 
-pub toldAt-length : (told : Bool) (lent : List ℕ) (at : ℕ) (rows : List ℕ)
+toldAt-length : (told : Bool) (lent : List ℕ) (at : ℕ) (rows : List ℕ)
     → length (toldAt told lent at rows) ≡ length lent
 toldAt-length true lent at rows = length-sets lent at rows
 toldAt-length false lent at rows = refl
 
--- one note more, from what its parts are known to be
-pub one-sent : (between : Between) (told : Bool) (w : Walked) (note : List ℕ)
-    {after : Chip} {now : List ℕ} {k z t : ℕ}
-    → k ≡ length note → z ≡ zerosOf note → t ≡ ticksOf note
-    → after ≡ sentBy (beforeNote between (w .notes) (w .chip)) note
-    → now ≡ toldAt told (w .rows) (rowLength * w .notes) ((w .notes + 1) ∷ (k ∷ (z ∷ (t ∷ []))))
-    → walked after (w .notes + 1) (w .sum + t) now ≡ oneSent between told w note
-one-sent between told w note {k = k} {z = z} {t = t} ek ez et ea er =
-    let n = w .notes + 1 in
-    let put : ℕ → ℕ → ℕ → List ℕ =
-    λ a b c. toldAt told (w .rows) (rowLength * w .notes) (n ∷ (a ∷ (b ∷ (c ∷ [])))) in
-    let rows =
-    er ∙ ap (λ (x : ℕ). put x z t) ek ∙ ap (λ (x : ℕ). put (length note) x t) ez
-    ∙ ap (λ (x : ℕ). put (length note) (zerosOf note) x) et in
-    λ i. walked (ea i) n (w .sum + et i) (rows i)
+one-sent : (between : Between) (c : Chip) (w : Walk) (rows note : List ℕ)
+    {after : Chip} {on : Walk} {now : List ℕ}
+    → after ≡ sentBy (beforeNote between (w .notes) c) note → on ≡ walkedOn w note
+    → now ≡ toldAt (w .told) rows (rowLength * w .notes) (rowOf (w .notes + 1) note)
+    → walked after (on .notes) (on .sum) now
+    ≡ oneSent between (w .told) (walked c (w .notes) (w .sum) rows) note
+one-sent between c w rows note ea eo er =
+    λ i. walked (ea i) (eo i .notes) (eo i .sum) (er i)
+
+-- The loop over a list that the scan accepted
+
+-- what has gone, walked over the rest of the list, is the whole report
+module _ (between : Between) (c₀ : Chip) (lent list : List ℕ) where
+  abbrev total : WalkedList
+  total =
+      walkedList (listedOf (reportOf between list)) (chipAfter between c₀ (readList list))
+      (rowsIn lent (reportOf between list))
+
+  abbrev rest : Bool → Walked → Reading → WalkedList
+  rest told = walk (oneSent between told) (allSent between) (noneSent c₀ lent)
+
+  pub record Underway (c : Chip) (rows : List ℕ) (w : Walk) : Type 0 where
+    pub comes : rest (w .told) (walked c (w .notes) (w .sum) rows) (restFrom list (w .at)) ≡ total
+    pub left : scanned (restFrom list (w .at)) ≡ Notes (w .all - w .notes)
+    pub length-kept : length rows ≡ length lent
+    pub few : w .notes ≤ w .all
+    pub short : 3 * w .notes + 1 ≤ w .at
+    pub inside : w .at ≤ length list + 1
+    pub sum-small : w .sum ≤ 19696 * w .notes
+
+  -- a list that is refused has no note, and nothing has happened
+  pub record Loop (c : Chip) (rows : List ℕ) (w : Walk) : Type 0 where
+    pub all : w .all ≡ scannedNotes (scanned (readList list))
+    pub told : w .told ≡ hasRoom (w .all) lent
+    pub size : length rows ≡ length lent
+    pub none : w .all ≡ 0 → (c ≡ c₀) × (rows ≡ lent)
+    pub some : scanned (readList list) ≡ Notes (w .all) → Underway c rows w
+
+  starts : (n : ℕ) → scanned (readList list) ≡ Notes n
+      → Underway c₀ lent (record { all = n; told = hasRoom n lent; notes = 0; at = 1; sum = 0 })
+  starts n s =
+      let e = sym (scanned-rest list n s) in
+      let none : n ≡ n - 0 = omega arith in
+      record {
+        comes = ap (rest (hasRoom n lent) (walked c₀ 0 0 lent)) e
+            ∙ sent-walk between c₀ lent n (readList list) s;
+        left = ap scanned e ∙ s ∙ ap Notes none;
+        length-kept = refl;
+        few = omega arith;
+        short = omega arith;
+        inside = omega arith;
+        sum-small = omega arith;
+      }
+
+  pub loop-starts : (r : Scanned) → r ≡ scanned (readList list)
+      → Loop c₀ lent (atFirst r (length lent))
+  loop-starts r e = record {
+    all = ap scannedNotes e;
+    told = refl;
+    size = refl;
+    none = λ z. (refl, refl);
+    some = λ s. starts (scannedNotes r) s;
+  }
+
+  accepted : (r : Scanned) (n : ℕ) → n ≡ scannedNotes r → 0 < n → r ≡ Notes n
+  accepted (Notes m) n e p = ap Notes (sym e)
+  accepted (Refused k) n e p = absurd (omega (arith, e, p))
+
+  module _ {c : Chip} {rows : List ℕ} {w : Walk} (l : Loop c rows w) (more : w .notes < w .all) where
+    reads : scanned (readList list) ≡ Notes (w .all)
+    reads = accepted (scanned (readList list)) (w .all) (l .all) (omega (arith, more))
+
+    pub next : Next list (w .at) (w .all - w .notes - 1)
+    next =
+        next-note list (w .at) (w .all - w .notes) (omega (arith, more)) (l .some reads .left)
+
+    -- what a turn asks of its numbers and of the lent part
+    pub room : Room (w .told) (rowLength * w .notes) rows
+    room =
+        subst (λ (b : Bool). Room b (rowLength * w .notes) rows) (sym (l .told))
+        (room-for (w .all) (w .notes) lent rows (omega (arith, more)) (l .size))
+
+    pub notes-small : w .notes < 65536
+    notes-small =
+        let u = l .some reads in
+        omega (arith, u .short, u .inside, scanned-size list (w .all) reads)
+
+    pub at-small : w .at < 4294967296
+    at-small =
+        let u = l .some reads in omega (arith, u .inside, scanned-size list (w .all) reads)
+
+    pub sum-small : w .sum < 4294967296
+    sum-small = let u = l .some reads in omega (arith, u .sum-small, notes-small)
+
+    -- a turn
+    pub loop-turns : {after : Chip} {on : Walk} {now : List ℕ}
+        → let note = noteAt list (w .at) in
+        after ≡ sentBy (beforeNote between (w .notes) c) note → on ≡ walkedOn w note
+        → now ≡ toldAt (w .told) rows (rowLength * w .notes) (rowOf (w .notes + 1) note)
+        → Loop after now on
+    loop-turns {after = after} {on = on} {now = now} ea eo er =
+        let note = noteAt list (w .at) in
+        let u = l .some reads in
+        let all = ap (λ (x : Walk). x .all) eo in
+        let told = ap (λ (x : Walk). x .told) eo in
+        let notes = ap (λ (x : Walk). x .notes) eo in
+        let at = ap (λ (x : Walk). x .at) eo in
+        let sum = ap (λ (x : Walk). x .sum) eo in
+        let was = walked c (w .notes) (w .sum) rows in
+        let one = one-sent between c w rows note ea eo er in
+        let kept = ap length er
+        ∙ toldAt-length (w .told) rows (rowLength * w .notes) (rowOf (w .notes + 1) note)
+        ∙ l .size in
+        let less : w .all - w .notes - 1 ≡ on .all - on .notes = omega (arith, all, notes) in
+        record {
+          all = all ∙ l .all;
+          told = told ∙ l .told ∙ ap (λ (n : ℕ). hasRoom n lent) (sym all);
+          size = kept;
+          none = λ z. absurd (omega (arith, z, all, more));
+          some = λ s. record {
+            comes = ap (λ (b : Bool). rest b (walked after (on .notes) (on .sum) now)
+                (restFrom list (on .at))) told
+                ∙ ap (λ (y : Walked). rest (w .told) y (restFrom list (on .at))) one
+                ∙ ap (λ (k : ℕ). rest (w .told) (oneSent between (w .told) was note)
+                (restFrom list k)) at
+                ∙ sym (walk-next (oneSent between (w .told)) (allSent between) (noneSent c₀ lent)
+                was list (w .at) (w .all - w .notes - 1) next)
+                ∙ u .comes;
+            left = ap (λ (k : ℕ). scanned (restFrom list k)) at ∙ next .rest ∙ ap Notes less;
+            length-kept = kept;
+            few = omega (arith, more, notes, all);
+            short = omega (arith, u .short, fits-few (length note) (next .fits) .0, at, notes);
+            inside = omega (arith, next .inside, at);
+            sum-small =
+                omega (arith, sum, notes, ticks-few note (next .fits), u .sum-small);
+          };
+        }
+
+  -- its end
+  pub loop-ends : {c : Chip} {rows : List ℕ} {w : Walk} → Loop c rows w → w .all ≤ w .notes
+      → walkedList (listedBy w (scanned (readList list)) between) c rows ≡ total
+  loop-ends {c} {rows} {w} l end = go (readList list) refl
+    where
+      go : (r : Reading) → readList list ≡ r
+          → walkedList (listedBy w (scanned r) between) c rows
+          ≡ walkedList (listedOf (reported between r)) (chipAfter between c₀ r)
+          (rowsIn lent (reported between r))
+      go (whole notes) e =
+          let n = l .all ∙ ap (λ (x : Reading). scannedNotes (scanned x)) e in
+          let u = l .some (ap scanned e ∙ ap Notes (sym n)) in
+          let none : w .all - w .notes ≤ 0 = omega (arith, end) in
+          sym (walk-last (oneSent between (w .told)) (allSent between) (noneSent c₀ lent)
+          (walked c (w .notes) (w .sum) rows) list (w .at) (w .all - w .notes) none (u .left))
+          ∙ u .comes ∙ ap (λ (x : Reading). walkedList (listedOf (reported between x))
+          (chipAfter between c₀ x) (rowsIn lent (reported between x))) e
+      go (refuses k) e =
+          let z = l .none (l .all ∙ ap (λ (x : Reading). scannedNotes (scanned x)) e) in
+          λ i. walkedList (listed.Refused k) (z .0 i) (z .1 i)

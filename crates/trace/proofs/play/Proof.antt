@@ -10,19 +10,19 @@ abbrev μ-loop : tie.MeasureT-loop
 μ-loop events chip₀ at₀ left₀ chip at left = left
 
 reset-requires : tie.Need-reset-requires Inv-loop μ-loop
-reset-requires c κs = search needs
+reset-requires c κs = tt
 
 loop-holds : tie.Need-loop-holds Inv-loop μ-loop
 loop-holds c = search needs
 
 next-requires : tie.Need-next-requires Inv-loop μ-loop
-next-requires c κs = search needs
+next-requires c κs = tt
 
 returns : tie.Need-returns Inv-loop μ-loop
 returns c = search needs
 
 say-line-requires : tie.Need-say-line-requires Inv-loop μ-loop
-say-line-requires c κs = search needs
+say-line-requires c κs = tt
 
 sub-left : tie.Need-sub-left Inv-loop μ-loop
 sub-left c = search needs

@@ -9,7 +9,7 @@ mul-result : tie.Need-mul-result
 mul-result c = search needs
 
 code-requires : tie.Need-code-requires
-code-requires c κs = search needs
+code-requires c κs = tt
 
 mul-result-2 : tie.Need-mul-result-2
 mul-result-2 c = search needs

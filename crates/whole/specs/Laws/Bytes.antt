@@ -15,7 +15,7 @@ use Rattle.line.specs.Frame.{noteBits, checkOf, contentOf}
 use Rattle.line.specs.Laws.Bits.{lowBits-fromLow, fromLow-lt, textBits-join}
 use Rattle.line.specs.Bits.{fromLow, Below, below-none as none, below-more as more}
 use Rattle.line.specs.Laws.Check.{checkBits-length}
-use Rattle.line.specs.Laws.Frame.{content-good}
+use Rattle.line.specs.Laws.Frame.{content-good, byte-of, checkBytes-bits}
 use Rattle.sdlc.specs.Hearing.{shiftIn}
 use Rattle.line.specs.Frame.{checkBytes, withCheck}
 
@@ -38,9 +38,6 @@ unfolding whole
 assembled-whole v h = eqb→eq _ _ (below→ whole 256 all-whole v h)
 
 -- any eight bits are a byte's
-pub byte-of : (bs : List Bool) → length bs ≡ 8 → lowBits 8 (fromLow bs) ≡ bs
-byte-of bs e = rw e at (lowBits-fromLow bs)
-
 pub byte-lt : (bs : List Bool) → length bs ≡ 8 → fromLow bs < 256
 byte-lt bs e = rw e at (fromLow-lt bs)
 
@@ -52,28 +49,20 @@ first-eight r = rw (length-take 8 (checkBits r), checkBits-length r)
 last-eight : (r : ℕ) → length (drop 8 (checkBits r)) ≡ 8
 last-eight r = rw (length-drop 8 (checkBits r), checkBits-length r)
 
-check-bits : (r : ℕ) → textBits 8 (checkBytes r) ≡ checkBits r
-unfolding checkBytes textBits
-check-bits r =
-    let x = take 8 (checkBits r) in
-    let y = drop 8 (checkBits r) in
-    rw (byte-of x (first-eight r), byte-of y (last-eight r), append-nil y)
-    (take-append-drop 8 (checkBits r))
-
 check-below : (r : ℕ) → Below 256 (checkBytes r)
 unfolding checkBytes
 check-below r =
     more (byte-lt (take 8 (checkBits r)) (first-eight r))
     (more (byte-lt (drop 8 (checkBits r)) (last-eight r)) none)
 
-below-join : {m : ℕ} {xs ys : List ℕ} → Below m xs → Below m ys → Below m (xs ++ ys)
+pub below-join : {m : ℕ} {xs ys : List ℕ} → Below m xs → Below m ys → Below m (xs ++ ys)
 below-join none q = q
 below-join (more h p) q = more h (below-join p q)
 
 -- a frame's content is the bits of those bytes, and its check is good
 pub content-bytes : (note : List ℕ) → contentOf note ≡ noteBits (withCheck note)
 content-bytes note =
-    ap (λ (l : List Bool). noteBits note ++ l) (sym (check-bits (checkOf note)))
+    ap (λ (l : List Bool). noteBits note ++ l) (sym (checkBytes-bits (checkOf note)))
     ∙ sym (textBits-join 8 note (checkBytes (checkOf note)))
 
 pub withCheck-below : {note : List ℕ} → Below 256 note → Below 256 (withCheck note)

@@ -12,6 +12,7 @@ use lib.ListN.{replicate}
 use borrow.Author.Tests.{ne-eqb, lt-ltb, ltb-true, ltb-false}
 use Rattle.common.specs.Choice.{if_then_else_}
 use Rattle.common.specs.Tools.{ltb-elim, by-test, if-elim, void, both-left, both-right}
+use Rattle.common.specs.Tools.{refused-test}
 use Rattle.line.specs.Bits.{oneIf}
 use Rattle.line.specs.Insertion.{zeroIf, stuff}
 use Rattle.entry.specs.declared.Entry.{Entry}
@@ -46,10 +47,6 @@ Deaf s = deaf (s .content) ≡ true
 
 abbrev Counts : ℕ → Listened → Type 0
 Counts o h = h .listener .content .ones ≡ o
-
--- the test that is refused did not come out true
-refused-test : {X : Type 0} {b : Bool} → not b ≡ true → b ≡ true → X
-refused-test n e = void (ap not (sym e) ∙ n)
 
 plain-no-end : (t : Bool) (v : ℕ) → endMarks (entryIf t (plainEntry v false false)) ≡ 0
 plain-no-end true v = refl

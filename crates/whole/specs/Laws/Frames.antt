@@ -17,6 +17,7 @@ use Rattle.line.specs.Insertion.{zeroIf, stuff}
 use Rattle.line.specs.Frame.{flagBits, noteBits, contentOf, frame}
 use Rattle.line.specs.Bits.{Below, below-none as none, below-more as more}
 use Rattle.line.specs.Laws.Check.{check-join}
+use Rattle.line.specs.Laws.Bits.{bit-few}
 use Rattle.entry.specs.declared.Entry.{Entry}
 use Rattle.entry.specs.Entry.{plainEntry}
 use Rattle.queue.specs.Holding.{entryIf}
@@ -78,10 +79,6 @@ unfoldable delayOf : ℕ → List Bool → ℕ
 delayOf a [] = a
 delayOf a (b ∷ bs) = delayOf (a * 2 + oneIf b) bs
 
-oneIf-le : (b : Bool) → oneIf b ≤ 1
-oneIf-le true = omega arith
-oneIf-le false = omega arith
-
 oneIf-is : (b : Bool) → eqb (oneIf b) 1 ≡ b
 oneIf-is true = refl
 oneIf-is false = refl
@@ -101,7 +98,7 @@ unfolding delayOf
 few zero a [] h l = l
 few zero a (d ∷ ds) h l = absurd (omega arith)
 few (suc n) a [] h l = few n a [] (omega arith) (omega arith)
-few (suc n) a (d ∷ ds) h l = few n (a * 2 + oneIf d) ds (omega arith) (omega (arith, oneIf-le d))
+few (suc n) a (d ∷ ds) h l = few n (a * 2 + oneIf d) ds (omega arith) (omega (arith, bit-few d))
 
 -- The line
 
@@ -133,8 +130,8 @@ module _ (address : ℕ) where
   push-full r o x y b d (p ∷ q ∷ k ∷ s ∷ u ∷ []) t l = absurd (omega arith)
   push-full r o x y b d (p ∷ q ∷ k ∷ s ∷ u ∷ w ∷ []) t l =
       let v = delayOf 1 (d ∷ p ∷ q ∷ k ∷ s ∷ u ∷ w ∷ []) in
-      let hd = oneIf-le d in let hp = oneIf-le p in let hq = oneIf-le q in let hk = oneIf-le k in
-      let hs = oneIf-le s in let hu = oneIf-le u in let hw = oneIf-le w in
+      let hd = bit-few d in let hp = bit-few p in let hq = bit-few q in let hk = bit-few k in
+      let hs = bit-few s in let hu = bit-few u in let hw = bit-few w in
       let top : v / 64 % 2 ≡ oneIf d = omega arith in
       let full : 128 ≤ v = omega arith in
       let rest : 128 + v % 64 * 2 + oneIf b ≡ delayOf 1 (p ∷ q ∷ k ∷ s ∷ u ∷ w ∷ b ∷ []) =

@@ -56,7 +56,7 @@ ended-none (closing zero b f c n) e = refl
 ended-none (closing (suc k) b f c n) e = void (sym (eqb·suc-zero k) ∙ e)
 ended-none (cutOff k b f c n) e = void e
 
-closed-some : (r c : ℕ) (bits : List Bool) (bytes : List ℕ) → 8 ≤ length (closed r c bits bytes)
+pub closed-some : (r c : ℕ) (bits : List Bool) (bytes : List ℕ) → 8 ≤ length (closed r c bits bytes)
 unfolding closed
 closed-some r c bits bytes =
     let text = textBits 8 bytes in

@@ -52,7 +52,7 @@ unfolding onesOver
 ones-join o [] ys = refl
 ones-join o (x ∷ xs) ys = ones-join (onesAfter o x) xs ys
 
-lead-six : (o : ℕ) → onesOver o lead ≡ 6
+pub lead-six : (o : ℕ) → onesOver o lead ≡ 6
 unfolding onesOver
 lead-six o = refl
 

@@ -10,7 +10,7 @@ use Rattle.writer.proofs.lay_line.Statement.{statement}
 use Rattle.writer.proofs.lay_line.Tie as tie
 
 lay-frame-requires : tie.Need-lay-frame-requires
-lay-frame-requires c κs = search needs
+lay-frame-requires c κs = tt
 
 sub-result : tie.Need-sub-result
 sub-result c =

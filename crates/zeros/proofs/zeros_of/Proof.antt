@@ -4,15 +4,14 @@ use Rattle.zeros.specs.Zeros.{countOf}
 use Rattle.line.specs.Laws.Line.{fits-few}
 use Rattle.counting.specs.Counting.{zerosIn-few}
 use Rattle.zeros.specs.declared.Counted.the-variants.{Zeros}
-use borrow.Author.Needs.{needs}
 use Rattle.zeros.proofs.zeros_of.Statement.{statement}
 use Rattle.zeros.proofs.zeros_of.Tie as tie
 
 note-fits-requires : tie.Need-note-fits-requires
-note-fits-requires c κs = search needs
+note-fits-requires c κs = tt
 
 count-requires : tie.Need-count-requires
-count-requires c κs = search needs
+count-requires c κs = tt
 
 returns : tie.Need-returns
 unfolding countOf

@@ -6,41 +6,41 @@ use Rattle.asynchronous.proofs.Assembly.hear.Statement.{statement}
 use Rattle.asynchronous.proofs.Assembly.hear.Tie as tie
 
 released-requires : tie.Need-released-requires
-released-requires c κs = search needs
+released-requires c κs = tt
 
 in-silence-requires : tie.Need-in-silence-requires
-in-silence-requires c κs = search needs
+in-silence-requires c κs = tt
 
 returns : tie.Need-returns
 unfolding hearCharacter
 returns c = simp (tests, c .before .before .if2 .taken, c .before .before .before .if1 .taken, ← c .before .released .ensures) (c .in-silence .ensures)
 
 in-silence-requires-2 : tie.Need-in-silence-requires-2
-in-silence-requires-2 c κs = search needs
+in-silence-requires-2 c κs = tt
 
 returns-2 : tie.Need-returns-2
 unfolding hearCharacter
 returns-2 c = simp (tests, c .before .if2 .left, c .before .before .if1 .taken) (c .in-silence2 .ensures)
 
 in-silence-requires-3 : tie.Need-in-silence-requires-3
-in-silence-requires-3 c κs = search needs
+in-silence-requires-3 c κs = tt
 
 returns-3 : tie.Need-returns-3
 unfolding hearCharacter
 returns-3 c = simp (tests, c .before .if4 .taken, c .before .before .if3 .taken, c .before .before .before .if1 .left) (c .in-silence3 .ensures)
 
 begun-requires : tie.Need-begun-requires
-begun-requires c κs = search needs
+begun-requires c κs = tt
 
 in-silence-requires-4 : tie.Need-in-silence-requires-4
-in-silence-requires-4 c κs = search needs
+in-silence-requires-4 c κs = tt
 
 returns-4 : tie.Need-returns-4
 unfolding hearCharacter
 returns-4 c = simp (tests, c .before .before .if4 .left, c .before .before .before .if3 .taken, c .before .before .before .before .if1 .left, ← c .before .begun .ensures) (c .in-silence4 .ensures)
 
 stopped-requires : tie.Need-stopped-requires
-stopped-requires c κs = search needs
+stopped-requires c κs = tt
 
 returns-5 : tie.Need-returns-5
 unfolding hearCharacter
@@ -50,10 +50,10 @@ sub-with-bit : tie.Need-sub-with-bit
 sub-with-bit c = search needs
 
 with-bit-requires : tie.Need-with-bit-requires
-with-bit-requires c κs = search needs
+with-bit-requires c κs = tt
 
 in-silence-requires-5 : tie.Need-in-silence-requires-5
-in-silence-requires-5 c κs = search needs
+in-silence-requires-5 c κs = tt
 
 returns-6 : tie.Need-returns-6
 unfolding hearCharacter

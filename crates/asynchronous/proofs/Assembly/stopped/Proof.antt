@@ -1,14 +1,13 @@
 -- `asynchronous::Assembly::stopped` meets its contract: each return by the facts on its way. Assumes nothing.
 use Rattle.asynchronous.proofs.Branch.{tests}
-use borrow.Author.Needs.{needs}
 use Rattle.asynchronous.proofs.Assembly.stopped.Statement.{statement}
 use Rattle.asynchronous.proofs.Assembly.stopped.Tie as tie
 
 none-requires : tie.Need-none-requires
-none-requires c κs = search needs
+none-requires c κs = tt
 
 finished-requires : tie.Need-finished-requires
-finished-requires c κs = search needs
+finished-requires c κs = tt
 
 returns : tie.Need-returns
 returns c = simp (tests, c .finished .ensures, ← c .before .before .none .ensures)

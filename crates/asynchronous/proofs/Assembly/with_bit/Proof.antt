@@ -5,7 +5,7 @@ use Rattle.asynchronous.proofs.Assembly.with_bit.Statement.{statement}
 use Rattle.asynchronous.proofs.Assembly.with_bit.Tie as tie
 
 bits-with-requires : tie.Need-bits-with-requires
-bits-with-requires c κs = search needs
+bits-with-requires c κs = tt
 
 mul-t6 : tie.Need-mul-t6
 mul-t6 c = search needs

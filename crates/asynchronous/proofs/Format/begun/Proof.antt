@@ -4,10 +4,10 @@ use Rattle.asynchronous.proofs.Format.begun.Statement.{statement}
 use Rattle.asynchronous.proofs.Format.begun.Tie as tie
 
 size-requires : tie.Need-size-requires
-size-requires c κs = search needs
+size-requires c κs = tt
 
 bit-requires : tie.Need-bit-requires
-bit-requires c κs = search needs
+bit-requires c κs = tt
 
 add-t4 : tie.Need-add-t4
 add-t4 c = search needs

@@ -8,16 +8,16 @@ use Rattle.asynchronous.proofs.Typing.character.Statement.{statement}
 use Rattle.asynchronous.proofs.Typing.character.Tie as tie
 
 bits-sent-requires : tie.Need-bits-sent-requires
-bits-sent-requires c κs = search needs
+bits-sent-requires c κs = tt
 
 stop-count-requires : tie.Need-stop-count-requires
-stop-count-requires c κs = search needs
+stop-count-requires c κs = tt
 
 stop-ones-requires : tie.Need-stop-ones-requires
-stop-ones-requires c κs = search needs
+stop-ones-requires c κs = tt
 
 parity-bit-requires : tie.Need-parity-bit-requires
-parity-bit-requires c κs = search needs
+parity-bit-requires c κs = tt
 
 cast-p : tie.Need-cast-p
 cast-p c = search needs

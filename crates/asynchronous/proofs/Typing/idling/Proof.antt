@@ -1,11 +1,10 @@
 -- `asynchronous::Typing::idling` meets its contract: each return by the facts on its way. Assumes nothing.
 use Rattle.asynchronous.proofs.Branch.{tests}
-use borrow.Author.Needs.{needs}
 use Rattle.asynchronous.proofs.Typing.idling.Statement.{statement}
 use Rattle.asynchronous.proofs.Typing.idling.Tie as tie
 
 start-character-requires : tie.Need-start-character-requires
-start-character-requires c κs = search needs
+start-character-requires c κs = tt
 
 returns : tie.Need-returns
 returns c = simp (tests, c .before .if1 .taken) (c .start-character .ensures)

@@ -6,7 +6,7 @@ use Rattle.asynchronous.proofs.Typing.tick.Statement.{statement}
 use Rattle.asynchronous.proofs.Typing.tick.Tie as tie
 
 idling-requires : tie.Need-idling-requires
-idling-requires c κs = search needs
+idling-requires c κs = tt
 
 returns : tie.Need-returns
 unfolding tickCharacter

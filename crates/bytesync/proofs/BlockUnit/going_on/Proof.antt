@@ -8,37 +8,37 @@ enum-told : tie.Need-enum-told
 enum-told c = search needs
 
 mark-requires : tie.Need-mark-requires
-mark-requires c κs = search needs
+mark-requires c κs = tt
 
 enum-known-self : tie.Need-enum-known-self
 enum-known-self c = search needs
 
 less-one-requires : tie.Need-less-one-requires
-less-one-requires c κs = search needs
+less-one-requires c κs = tt
 
 sent-requires : tie.Need-sent-requires
-sent-requires c κs = search needs
+sent-requires c κs = tt
 
 enum-known-self-2 : tie.Need-enum-known-self-2
 enum-known-self-2 c = search needs
 
 less-one-requires-2 : tie.Need-less-one-requires-2
-less-one-requires-2 c κs = search needs
+less-one-requires-2 c κs = tt
 
 sent-requires-2 : tie.Need-sent-requires-2
-sent-requires-2 c κs = search needs
+sent-requires-2 c κs = tt
 
 enum-known-self-3 : tie.Need-enum-known-self-3
 enum-known-self-3 c = search needs
 
 less-one-requires-3 : tie.Need-less-one-requires-3
-less-one-requires-3 c κs = search needs
+less-one-requires-3 c κs = tt
 
 mul-t25 : tie.Need-mul-t25
 mul-t25 c = search needs
 
 sent-requires-3 : tie.Need-sent-requires-3
-sent-requires-3 c κs = search needs
+sent-requires-3 c κs = tt
 
 returns : tie.Need-returns
 returns c = simp (tests, c .before .enum-told .given .1) (c .mark .ensures)

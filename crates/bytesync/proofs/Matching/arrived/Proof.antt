@@ -1,21 +1,20 @@
 -- `bytesync::Matching::arrived` meets its contract: each return by the facts on its way. Assumes nothing.
 use Rattle.bytesync.proofs.Branch.{tests}
 use Rattle.bytesync.specs.Hearing.{arrived}
-use borrow.Author.Needs.{needs}
 use Rattle.bytesync.proofs.Matching.arrived.Statement.{statement}
 use Rattle.bytesync.proofs.Matching.arrived.Tie as tie
 
 leads-requires : tie.Need-leads-requires
-leads-requires c κs = search needs
+leads-requires c κs = tt
 
 at-requires : tie.Need-at-requires
-at-requires c κs = search needs
+at-requires c κs = tt
 
 entering-requires : tie.Need-entering-requires
-entering-requires c κs = search needs
+entering-requires c κs = tt
 
 received-requires : tie.Need-received-requires
-received-requires c κs = search needs
+received-requires c κs = tt
 
 returns : tie.Need-returns
 unfolding arrived

@@ -6,26 +6,26 @@ use Rattle.bytesync.proofs.Matching.assembling.Statement.{statement}
 use Rattle.bytesync.proofs.Matching.assembling.Tie as tie
 
 shift-in-requires : tie.Need-shift-in-requires
-shift-in-requires c κs = search needs
+shift-in-requires c κs = tt
 
 add-of : tie.Need-add-of
 add-of c = search needs
 
 of-requires : tie.Need-of-requires
-of-requires c κs = search needs
+of-requires c κs = tt
 
 unmatched-requires : tie.Need-unmatched-requires
-unmatched-requires c κs = search needs
+unmatched-requires c κs = tt
 
 returns : tie.Need-returns
 unfolding assembling
 returns c = simp (tests, c .before .before .before .if1 .taken, ← c .before .of .ensures, ← c .before .before .before .before .before .before .shift-in .ensures) (c .unmatched .ensures)
 
 last-eight-requires : tie.Need-last-eight-requires
-last-eight-requires c κs = search needs
+last-eight-requires c κs = tt
 
 arrived-requires : tie.Need-arrived-requires
-arrived-requires c κs = search needs
+arrived-requires c κs = tt
 
 returns-2 : tie.Need-returns-2
 unfolding assembling

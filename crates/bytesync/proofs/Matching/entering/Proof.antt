@@ -1,12 +1,11 @@
 -- `bytesync::Matching::entering` meets its contract: each return by the facts on its way. Assumes nothing.
 use Rattle.bytesync.proofs.Branch.{tests}
 use Rattle.bytesync.specs.Hearing.{entering}
-use borrow.Author.Needs.{needs}
 use Rattle.bytesync.proofs.Matching.entering.Statement.{statement}
 use Rattle.bytesync.proofs.Matching.entering.Tie as tie
 
 check-byte-requires : tie.Need-check-byte-requires
-check-byte-requires c κs = search needs
+check-byte-requires c κs = tt
 
 returns : tie.Need-returns
 unfolding entering

@@ -1,19 +1,18 @@
 -- `bytesync::Matching::hear` meets its contract: each return by the facts on its way. Assumes nothing.
 use Rattle.bytesync.proofs.Branch.{tests}
 use Rattle.bytesync.specs.Hearing.{hearBlock}
-use borrow.Author.Needs.{needs}
 use Rattle.bytesync.proofs.Matching.hear.Statement.{statement}
 use Rattle.bytesync.proofs.Matching.hear.Tie as tie
 
 hunting-requires : tie.Need-hunting-requires
-hunting-requires c κs = search needs
+hunting-requires c κs = tt
 
 returns : tie.Need-returns
 unfolding hearBlock
 returns c = simp (tests, c .before .if1 .taken) (c .hunting .ensures)
 
 assembling-requires : tie.Need-assembling-requires
-assembling-requires c κs = search needs
+assembling-requires c κs = tt
 
 returns-2 : tie.Need-returns-2
 unfolding hearBlock

@@ -1,37 +1,36 @@
 -- `bytesync::Matching::hunting` meets its contract: each return by the facts on its way. Assumes nothing.
 use Rattle.bytesync.proofs.Branch.{tests}
 use Rattle.bytesync.specs.Hearing.{hunting}
-use borrow.Author.Needs.{needs}
 use Rattle.bytesync.proofs.Matching.hunting.Statement.{statement}
 use Rattle.bytesync.proofs.Matching.hunting.Tie as tie
 
 shift-in-requires : tie.Need-shift-in-requires
-shift-in-requires c κs = search needs
+shift-in-requires c κs = tt
 
 counted-requires : tie.Need-counted-requires
-counted-requires c κs = search needs
+counted-requires c κs = tt
 
 seen-requires : tie.Need-seen-requires
-seen-requires c κs = search needs
+seen-requires c κs = tt
 
 none-requires : tie.Need-none-requires
-none-requires c κs = search needs
+none-requires c κs = tt
 
 at-requires : tie.Need-at-requires
-at-requires c κs = search needs
+at-requires c κs = tt
 
 unmatched-requires : tie.Need-unmatched-requires
-unmatched-requires c κs = search needs
+unmatched-requires c κs = tt
 
 returns : tie.Need-returns
 unfolding hunting
 returns c = simp (tests, c .before .before .before .if1 .taken, ← c .before .at .ensures, ← c .before .before .none .ensures, ← c .before .before .before .before .seen .ensures, ← c .before .before .before .before .before .before .counted .ensures, ← c .before .before .before .before .before .before .before .shift-in .ensures) (c .unmatched .ensures)
 
 of-requires : tie.Need-of-requires
-of-requires c κs = search needs
+of-requires c κs = tt
 
 unmatched-requires-2 : tie.Need-unmatched-requires-2
-unmatched-requires-2 c κs = search needs
+unmatched-requires-2 c κs = tt
 
 returns-2 : tie.Need-returns-2
 unfolding hunting

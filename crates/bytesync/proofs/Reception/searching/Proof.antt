@@ -1,14 +1,13 @@
 -- `bytesync::Reception::searching` meets its contract: each return by the facts on its way. Assumes nothing.
 use Rattle.bytesync.proofs.Branch.{tests}
-use borrow.Author.Needs.{needs}
 use Rattle.bytesync.proofs.Reception.searching.Statement.{statement}
 use Rattle.bytesync.proofs.Reception.searching.Tie as tie
 
 none-requires : tie.Need-none-requires
-none-requires c κs = search needs
+none-requires c κs = tt
 
 at-requires : tie.Need-at-requires
-at-requires c κs = search needs
+at-requires c κs = tt
 
 returns : tie.Need-returns
 returns c = simp (tests, ← c .before .none .ensures) (c .at .ensures)

@@ -1,11 +1,10 @@
 -- `bytesync::Reception::unmatched` meets its contract: each return by the facts on its way. Assumes nothing.
 use Rattle.bytesync.proofs.Branch.{tests}
-use borrow.Author.Needs.{needs}
 use Rattle.bytesync.proofs.Reception.unmatched.Statement.{statement}
 use Rattle.bytesync.proofs.Reception.unmatched.Tie as tie
 
 none-requires : tie.Need-none-requires
-none-requires c κs = search needs
+none-requires c κs = tt
 
 returns : tie.Need-returns
 returns c = simp (tests, c .none .ensures)

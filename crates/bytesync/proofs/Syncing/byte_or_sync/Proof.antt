@@ -1,17 +1,16 @@
 -- `bytesync::Syncing::byte_or_sync` meets its contract: each return by the facts on its way. Assumes nothing.
 use Rattle.bytesync.proofs.Branch.{tests}
-use borrow.Author.Needs.{needs}
 use Rattle.bytesync.proofs.Syncing.byte_or_sync.Statement.{statement}
 use Rattle.bytesync.proofs.Syncing.byte_or_sync.Tie as tie
 
 start-byte-requires : tie.Need-start-byte-requires
-start-byte-requires c κs = search needs
+start-byte-requires c κs = tt
 
 returns : tie.Need-returns
 returns c = simp (tests, c .before .if1 .taken) (c .start-byte .ensures)
 
 start-sync-requires : tie.Need-start-sync-requires
-start-sync-requires c κs = search needs
+start-sync-requires c κs = tt
 
 returns-2 : tie.Need-returns-2
 returns-2 c = simp (tests, c .before .if1 .left) (c .start-sync .ensures)

@@ -9,32 +9,32 @@ enum-told : tie.Need-enum-told
 enum-told c = search needs
 
 start-sync-requires : tie.Need-start-sync-requires
-start-sync-requires c κs = search needs
+start-sync-requires c κs = tt
 
 enum-known-u : tie.Need-enum-known-u
 enum-known-u c = search needs
 
 byte-or-sync-requires : tie.Need-byte-or-sync-requires
-byte-or-sync-requires c κs = search needs
+byte-or-sync-requires c κs = tt
 
 enum-known-u-2 : tie.Need-enum-known-u-2
 enum-known-u-2 c = search needs
 
 start-byte-requires : tie.Need-start-byte-requires
-start-byte-requires c κs = search needs
+start-byte-requires c κs = tt
 
 returns : tie.Need-returns
 unfolding following
 returns c = simp (tests, c .before .if1 .taken, c .before .before .before .u2 .given .1) (c .start-byte .ensures)
 
 underrun-requires : tie.Need-underrun-requires
-underrun-requires c κs = search needs
+underrun-requires c κs = tt
 
 enum-known-u-3 : tie.Need-enum-known-u-3
 enum-known-u-3 c = search needs
 
 byte-or-sync-requires-2 : tie.Need-byte-or-sync-requires-2
-byte-or-sync-requires-2 c κs = search needs
+byte-or-sync-requires-2 c κs = tt
 
 returns-2 : tie.Need-returns-2
 unfolding following

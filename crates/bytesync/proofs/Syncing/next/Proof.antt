@@ -1,17 +1,16 @@
 -- `bytesync::Syncing::next` meets its contract: each return by the facts on its way. Assumes nothing.
 use Rattle.bytesync.proofs.Branch.{tests}
-use borrow.Author.Needs.{needs}
 use Rattle.bytesync.proofs.Syncing.next.Statement.{statement}
 use Rattle.bytesync.proofs.Syncing.next.Tie as tie
 
 following-requires : tie.Need-following-requires
-following-requires c κs = search needs
+following-requires c κs = tt
 
 returns : tie.Need-returns
 returns c = simp (tests, c .before .if1 .taken) (c .following .ensures)
 
 mark-requires : tie.Need-mark-requires
-mark-requires c κs = search needs
+mark-requires c κs = tt
 
 returns-2 : tie.Need-returns-2
 returns-2 c = simp (tests, c .before .if1 .left) (c .mark .ensures)

@@ -1,15 +1,14 @@
 -- `bytesync::Syncing::tick` meets its contract: a unit that has ended is followed by the next, another goes on. Assumes nothing.
 use mathlib.Core.Path.{sym, _∙_}
 use Rattle.bytesync.specs.Laws.Within.{ended, under-way}
-use borrow.Author.Needs.{needs}
 use Rattle.bytesync.proofs.Syncing.tick.Statement.{statement}
 use Rattle.bytesync.proofs.Syncing.tick.Tie as tie
 
 left-requires : tie.Need-left-requires
-left-requires c κs = search needs
+left-requires c κs = tt
 
 next-requires : tie.Need-next-requires
-next-requires c κs = search needs
+next-requires c κs = tt
 
 returns : tie.Need-returns
 returns c =
@@ -18,7 +17,7 @@ returns c =
     ∙ sym (ended (a .self) (a .u) (a .k) (sym (c .before .before .left .ensures) ∙ c .before .if1 .taken))
 
 going-on-requires : tie.Need-going-on-requires
-going-on-requires c κs = search needs
+going-on-requires c κs = tt
 
 returns-2 : tie.Need-returns-2
 returns-2 c =

@@ -1,23 +1,22 @@
 -- `bytesync::Syncing::underrun` meets its contract: each return by the facts on its way. Assumes nothing.
 use Rattle.bytesync.proofs.Branch.{tests}
-use borrow.Author.Needs.{needs}
 use Rattle.bytesync.proofs.Syncing.underrun.Statement.{statement}
 use Rattle.bytesync.proofs.Syncing.underrun.Tie as tie
 
 latched-requires : tie.Need-latched-requires
-latched-requires c κs = search needs
+latched-requires c κs = tt
 
 start-check-requires : tie.Need-start-check-requires
-start-check-requires c κs = search needs
+start-check-requires c κs = tt
 
 returns : tie.Need-returns
 returns c = simp (tests, c .start-check .ensures, c .before .before .if1 .taken, c .before .latched .ensures)
 
 latched-requires-2 : tie.Need-latched-requires-2
-latched-requires-2 c κs = search needs
+latched-requires-2 c κs = tt
 
 start-sync-requires : tie.Need-start-sync-requires
-start-sync-requires c κs = search needs
+start-sync-requires c κs = tt
 
 returns-2 : tie.Need-returns-2
 returns-2 c = simp (tests, c .before .before .if1 .left, ← c .before .latched2 .ensures) (c .start-sync .ensures)

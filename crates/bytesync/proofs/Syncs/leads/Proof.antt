@@ -1,11 +1,10 @@
 -- `bytesync::Syncs::leads` meets its contract: each return by the facts on its way. Assumes nothing.
 use Rattle.bytesync.proofs.Branch.{tests}
-use borrow.Author.Needs.{needs}
 use Rattle.bytesync.proofs.Syncs.leads.Statement.{statement}
 use Rattle.bytesync.proofs.Syncs.leads.Tie as tie
 
 expected-requires : tie.Need-expected-requires
-expected-requires c κs = search needs
+expected-requires c κs = tt
 
 returns : tie.Need-returns
 returns c = simp (tests, ← c .before .expected .ensures)

@@ -6,7 +6,7 @@ use Rattle.bytesync.proofs.Syncs.seen.Statement.{statement}
 use Rattle.bytesync.proofs.Syncs.seen.Tie as tie
 
 pair-requires : tie.Need-pair-requires
-pair-requires c κs = search needs
+pair-requires c κs = tt
 
 returns : tie.Need-returns
 unfolding syncSeen

@@ -5,7 +5,7 @@ use Rattle.bytesync.proofs.Syncs.sent.Statement.{statement}
 use Rattle.bytesync.proofs.Syncs.sent.Tie as tie
 
 pair-requires : tie.Need-pair-requires
-pair-requires c κs = search needs
+pair-requires c κs = tt
 
 returns : tie.Need-returns
 returns c = simp (tests, c .before .if1 .taken) (c .pair .ensures)

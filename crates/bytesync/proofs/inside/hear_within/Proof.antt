@@ -1,15 +1,14 @@
 -- `bytesync::inside::hear_within` meets its contract: each return by the facts on its way. Assumes nothing.
 use Rattle.bytesync.proofs.Branch.{tests}
 use Rattle.bytesync.specs.Within.{movedOn}
-use borrow.Author.Needs.{needs}
 use Rattle.bytesync.proofs.inside.hear_within.Statement.{statement}
 use Rattle.bytesync.proofs.inside.hear_within.Tie as tie
 
 shift-in-requires : tie.Need-shift-in-requires
-shift-in-requires c κs = search needs
+shift-in-requires c κs = tt
 
 count-after-requires : tie.Need-count-after-requires
-count-after-requires c κs = search needs
+count-after-requires c κs = tt
 
 returns : tie.Need-returns
 unfolding movedOn

@@ -1,10 +1,9 @@
 use Rattle.channel.proofs.Branch.{tests}
-use borrow.Author.Needs.{needs}
 use Rattle.channel.proofs.Channel.after_tick.Statement.{statement}
 use Rattle.channel.proofs.Channel.after_tick.Tie as tie
 
 transmit-on-requires : tie.Need-transmit-on-requires
-transmit-on-requires c κs = search needs
+transmit-on-requires c κs = tt
 
 returns : tie.Need-returns
 returns c = simp (tests, ← c .before .before .transmit-on .ensures)

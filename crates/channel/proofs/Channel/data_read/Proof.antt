@@ -1,18 +1,17 @@
 -- `channel::Channel::data_read` meets its contract: each return by the facts on its way. Assumes nothing.
 use Rattle.channel.proofs.Branch.{tests}
 use Rattle.channel.specs.Events.{dataRead}
-use borrow.Author.Needs.{needs}
 use Rattle.channel.proofs.Channel.data_read.Statement.{statement}
 use Rattle.channel.proofs.Channel.data_read.Tie as tie
 
 waits-requires : tie.Need-waits-requires
-waits-requires c κs = search needs
+waits-requires c κs = tt
 
 oldest-requires : tie.Need-oldest-requires
-oldest-requires c κs = search needs
+oldest-requires c κs = tt
 
 take-requires : tie.Need-take-requires
-take-requires c κs = search needs
+take-requires c κs = tt
 
 returns : tie.Need-returns
 unfolding dataRead

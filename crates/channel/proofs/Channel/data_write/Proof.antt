@@ -1,11 +1,9 @@
--- `channel::Channel::data_write` meets its contract: each return by the facts on its way. Assumes nothing.
 use Rattle.channel.proofs.Branch.{tests}
-use borrow.Author.Needs.{needs}
 use Rattle.channel.proofs.Channel.data_write.Statement.{statement}
 use Rattle.channel.proofs.Channel.data_write.Tie as tie
 
 write-requires : tie.Need-write-requires
-write-requires c κs = search needs
+write-requires c κs = tt
 
 returns : tie.Need-returns
 returns c = simp (tests, c .write .ensures)

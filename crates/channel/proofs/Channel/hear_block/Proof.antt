@@ -1,14 +1,13 @@
 -- `channel::Channel::hear_block` meets its contract: each return by the facts on its way. Assumes nothing.
 use Rattle.channel.proofs.Branch.{tests}
-use borrow.Author.Needs.{needs}
 use Rattle.channel.proofs.Channel.hear_block.Statement.{statement}
 use Rattle.channel.proofs.Channel.hear_block.Tie as tie
 
 hear-within-requires : tie.Need-hear-within-requires
-hear-within-requires c κs = search needs
+hear-within-requires c κs = tt
 
 with-reception-requires : tie.Need-with-reception-requires
-with-reception-requires c κs = search needs
+with-reception-requires c κs = tt
 
 returns : tie.Need-returns
 returns c = simp (tests, c .with-reception .ensures, ← c .before .hear-within .ensures)

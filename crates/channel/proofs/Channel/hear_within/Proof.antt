@@ -1,17 +1,16 @@
 -- `channel::Channel::hear_within` meets its contract: each return by the facts on its way. Assumes nothing.
 use Rattle.channel.proofs.Branch.{tests}
-use borrow.Author.Needs.{needs}
 use Rattle.channel.proofs.Channel.hear_within.Statement.{statement}
 use Rattle.channel.proofs.Channel.hear_within.Tie as tie
 
 listener-requires : tie.Need-listener-requires
-listener-requires c κs = search needs
+listener-requires c κs = tt
 
 hear-within-requires : tie.Need-hear-within-requires
-hear-within-requires c κs = search needs
+hear-within-requires c κs = tt
 
 with-listener-requires : tie.Need-with-listener-requires
-with-listener-requires c κs = search needs
+with-listener-requires c κs = tt
 
 returns : tie.Need-returns
 returns c = simp (tests, c .with-listener .ensures, ← c .before .hear-within .ensures, ← c .before .before .listener .ensures)

@@ -1,18 +1,17 @@
 -- `channel::Channel::hears_block` meets its contract: each return by the facts on its way. Assumes nothing.
 use Rattle.channel.proofs.Branch.{tests}
 use Rattle.channel.specs.Within.{hearsBlock}
-use borrow.Author.Needs.{needs}
 use Rattle.channel.proofs.Channel.hears_block.Statement.{statement}
 use Rattle.channel.proofs.Channel.hears_block.Tie as tie
 
 receiving-requires : tie.Need-receiving-requires
-receiving-requires c κs = search needs
+receiving-requires c κs = tt
 
 in-blocks-requires : tie.Need-in-blocks-requires
-in-blocks-requires c κs = search needs
+in-blocks-requires c κs = tt
 
 hears-within-requires : tie.Need-hears-within-requires
-hears-within-requires c κs = search needs
+hears-within-requires c κs = tt
 
 returns : tie.Need-returns
 unfolding hearsBlock

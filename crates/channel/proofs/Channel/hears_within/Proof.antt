@@ -1,21 +1,20 @@
 -- `channel::Channel::hears_within` meets its contract: each return by the facts on its way. Assumes nothing.
 use Rattle.channel.proofs.Branch.{tests}
 use Rattle.channel.specs.Within.{hearsWithin}
-use borrow.Author.Needs.{needs}
 use Rattle.channel.proofs.Channel.hears_within.Statement.{statement}
 use Rattle.channel.proofs.Channel.hears_within.Tie as tie
 
 receiving-requires : tie.Need-receiving-requires
-receiving-requires c κs = search needs
+receiving-requires c κs = tt
 
 in-sdlc-requires : tie.Need-in-sdlc-requires
-in-sdlc-requires c κs = search needs
+in-sdlc-requires c κs = tt
 
 listener-requires : tie.Need-listener-requires
-listener-requires c κs = search needs
+listener-requires c κs = tt
 
 hears-within-requires : tie.Need-hears-within-requires
-hears-within-requires c κs = search needs
+hears-within-requires c κs = tt
 
 returns : tie.Need-returns
 unfolding hearsWithin

@@ -1,15 +1,14 @@
 -- `channel::Channel::live` meets its contract: each return by the facts on its way. Assumes nothing.
 use Rattle.channel.proofs.Branch.{tests}
 use Rattle.channel.specs.Channel.{liveOf}
-use borrow.Author.Needs.{needs}
 use Rattle.channel.proofs.Channel.live.Statement.{statement}
 use Rattle.channel.proofs.Channel.live.Tie as tie
 
 receiving-requires : tie.Need-receiving-requires
-receiving-requires c κs = search needs
+receiving-requires c κs = tt
 
 hunting-requires : tie.Need-hunting-requires
-hunting-requires c κs = search needs
+hunting-requires c κs = tt
 
 returns : tie.Need-returns
 unfolding liveOf

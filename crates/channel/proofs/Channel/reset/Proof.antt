@@ -1,23 +1,22 @@
 -- `channel::Channel::reset` meets its contract: each return by the facts on its way. Assumes nothing.
 use Rattle.channel.proofs.Branch.{tests}
-use borrow.Author.Needs.{needs}
 use Rattle.channel.proofs.Channel.reset.Statement.{statement}
 use Rattle.channel.proofs.Channel.reset.Tie as tie
 
 reset-requires : tie.Need-reset-requires
-reset-requires c κs = search needs
+reset-requires c κs = tt
 
 reset-requires-2 : tie.Need-reset-requires-2
-reset-requires-2 c κs = search needs
+reset-requires-2 c κs = tt
 
 empty-requires : tie.Need-empty-requires
-empty-requires c κs = search needs
+empty-requires c κs = tt
 
 quiet-requires : tie.Need-quiet-requires
-quiet-requires c κs = search needs
+quiet-requires c κs = tt
 
 none-requires : tie.Need-none-requires
-none-requires c κs = search needs
+none-requires c κs = tt
 
 returns : tie.Need-returns
 returns c = simp (tests, c .none .ensures, ← c .before .quiet .ensures, ← c .before .before .empty .ensures, ← c .before .before .before .reset2 .ensures, ← c .before .before .before .before .reset .ensures)

@@ -1,15 +1,25 @@
--- `channel::Channel::set_lines` meets its contract: each return by the facts on its way. Assumes nothing.
+use Rattle.channel.proofs.Branch.{tests}
+use Rattle.channel.specs.Channel.{settled}
 use Rattle.channel.specs.Events.{linesSet}
-use borrow.Author.Needs.{needs}
 use Rattle.channel.proofs.Channel.set_lines.Statement.{statement}
 use Rattle.channel.proofs.Channel.set_lines.Tie as tie
 
-settled-requires : tie.Need-settled-requires
-settled-requires c κs = search needs
-
 returns : tie.Need-returns
-unfolding linesSet
-returns c = c .settled .ensures
+returns c = simp (tests, c .if1 .taken)
+
+live-requires : tie.Need-live-requires
+live-requires c κs = tt
+
+live-requires-2 : tie.Need-live-requires-2
+live-requires-2 c κs = tt
+
+noticed-requires : tie.Need-noticed-requires
+noticed-requires c κs = tt
+
+returns-2 : tie.Need-returns-2
+unfolding linesSet settled
+returns-2 c = simp (tests, c .before .before .before .if1 .left, c .noticed .ensures, ← c .before .live2 .ensures, ← c .before .before .live .ensures)
 
 pub set-lines-spec : {M : Type 1} → statement M
-set-lines-spec = tie.close (tie.spec settled-requires returns)
+set-lines-spec =
+    tie.close (tie.spec returns live-requires live-requires-2 noticed-requires returns-2)

@@ -1,18 +1,17 @@
 -- `channel::Channel::tick_block` meets its contract: each return by the facts on its way. Assumes nothing.
 use Rattle.channel.proofs.Branch.{tests}
 use Rattle.channel.specs.Within.{tickedBlock}
-use borrow.Author.Needs.{needs}
 use Rattle.channel.proofs.Channel.tick_block.Statement.{statement}
 use Rattle.channel.proofs.Channel.tick_block.Tie as tie
 
 tick-within-requires : tie.Need-tick-within-requires
-tick-within-requires c κs = search needs
+tick-within-requires c κs = tt
 
 with-block-requires : tie.Need-with-block-requires
-with-block-requires c κs = search needs
+with-block-requires c κs = tt
 
 cell-requires : tie.Need-cell-requires
-cell-requires c κs = search needs
+cell-requires c κs = tt
 
 returns : tie.Need-returns
 unfolding tickedBlock

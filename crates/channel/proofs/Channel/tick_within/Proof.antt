@@ -1,21 +1,20 @@
 -- `channel::Channel::tick_within` meets its contract: each return by the facts on its way. Assumes nothing.
 use Rattle.channel.proofs.Branch.{tests}
 use Rattle.channel.specs.Within.{tickedWithin}
-use borrow.Author.Needs.{needs}
 use Rattle.channel.proofs.Channel.tick_within.Statement.{statement}
 use Rattle.channel.proofs.Channel.tick_within.Tie as tie
 
 framer-requires : tie.Need-framer-requires
-framer-requires c κs = search needs
+framer-requires c κs = tt
 
 tick-within-requires : tie.Need-tick-within-requires
-tick-within-requires c κs = search needs
+tick-within-requires c κs = tt
 
 with-framer-requires : tie.Need-with-framer-requires
-with-framer-requires c κs = search needs
+with-framer-requires c κs = tt
 
 cell-requires : tie.Need-cell-requires
-cell-requires c κs = search needs
+cell-requires c κs = tt
 
 returns : tie.Need-returns
 unfolding tickedWithin

@@ -8,24 +8,23 @@ use Rattle.sender.specs.Laws.Tick.{tick-sdlc}
 use Rattle.settings.specs.Settings.{sendingOf}
 use Rattle.channel.proofs.Branch.{tests}
 use Rattle.channel.specs.Laws.Within.{in-sdlc}
-use borrow.Author.Needs.{needs}
 use Rattle.channel.proofs.Channel.ticked.Statement.{statement}
 use Rattle.channel.proofs.Channel.ticked.Tie as tie
 
 mode-requires : tie.Need-mode-requires
-mode-requires c κs = search needs
+mode-requires c κs = tt
 
 in-sdlc-requires : tie.Need-in-sdlc-requires
-in-sdlc-requires c κs = search needs
+in-sdlc-requires c κs = tt
 
 framing-requires : tie.Need-framing-requires
-framing-requires c κs = search needs
+framing-requires c κs = tt
 
 breaks-requires : tie.Need-breaks-requires
-breaks-requires c κs = search needs
+breaks-requires c κs = tt
 
 tick-framed-requires : tie.Need-tick-framed-requires
-tick-framed-requires c κs = search needs
+tick-framed-requires c κs = tt
 
 returns : tie.Need-returns
 unfolding sendingOf
@@ -38,10 +37,10 @@ returns c =
     ∙ sym (tick-sdlc (sendingOf (x .registers) (x .lines)) (x .sender) (in-sdlc (x .registers .mode) e))
 
 sending-requires : tie.Need-sending-requires
-sending-requires c κs = search needs
+sending-requires c κs = tt
 
 tick-requires : tie.Need-tick-requires
-tick-requires c κs = search needs
+tick-requires c κs = tt
 
 returns-2 : tie.Need-returns-2
 returns-2 c = simp (tests, ← c .before .sending .ensures) (c .tick .ensures)

@@ -7,18 +7,17 @@ use Rattle.channel.specs.declared.Channel.{Channel}
 use Rattle.channel.specs.Channel.{answered}
 use Rattle.channel.specs.Events.{transmitted, transmitTick}
 use Rattle.channel.specs.Laws.Within.{still-ticked}
-use borrow.Author.Needs.{needs}
 use Rattle.channel.proofs.Channel.transmit_tick.Statement.{statement}
 use Rattle.channel.proofs.Channel.transmit_tick.Tie as tie
 
 ticked-requires : tie.Need-ticked-requires
-ticked-requires c κs = search needs
+ticked-requires c κs = tt
 
 cell-requires : tie.Need-cell-requires
-cell-requires c κs = search needs
+cell-requires c κs = tt
 
 after-tick-requires : tie.Need-after-tick-requires
-after-tick-requires c κs = search needs
+after-tick-requires c κs = tt
 
 returns : tie.Need-returns
 unfolding transmitTick
@@ -30,13 +29,13 @@ returns c =
     ∙ ap (transmitted s) (x .ticked .ensures)
 
 after-tick-requires-2 : tie.Need-after-tick-requires-2
-after-tick-requires-2 c κs = search needs
+after-tick-requires-2 c κs = tt
 
 settled-requires : tie.Need-settled-requires
-settled-requires c κs = search needs
+settled-requires c κs = tt
 
 cell-requires-2 : tie.Need-cell-requires-2
-cell-requires-2 c κs = search needs
+cell-requires-2 c κs = tt
 
 returns-2 : tie.Need-returns-2
 unfolding transmitTick

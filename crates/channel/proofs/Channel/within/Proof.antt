@@ -5,24 +5,23 @@ use Rattle.common.specs.Mode.{inSdlc}
 use Rattle.sdlc.specs.Within.{within}
 use Rattle.sender.specs.Sender.{framerOf}
 use Rattle.channel.specs.Laws.Within.{inside-is, outside-is}
-use borrow.Author.Needs.{needs}
 use Rattle.channel.proofs.Channel.within.Statement.{statement}
 use Rattle.channel.proofs.Channel.within.Tie as tie
 
 framer-requires : tie.Need-framer-requires
-framer-requires c κs = search needs
+framer-requires c κs = tt
 
 within-requires : tie.Need-within-requires
-within-requires c κs = search needs
+within-requires c κs = tt
 
 breaks-requires : tie.Need-breaks-requires
-breaks-requires c κs = search needs
+breaks-requires c κs = tt
 
 mode-requires : tie.Need-mode-requires
-mode-requires c κs = search needs
+mode-requires c κs = tt
 
 in-sdlc-requires : tie.Need-in-sdlc-requires
-in-sdlc-requires c κs = search needs
+in-sdlc-requires c κs = tt
 
 returns : tie.Need-returns
 returns c =

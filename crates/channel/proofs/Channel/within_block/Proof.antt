@@ -4,21 +4,20 @@ use mathlib.Core.Bool.{Bool, true, false, not, _&&_}
 use Rattle.common.specs.Mode.{inBlocks}
 use Rattle.bytesync.specs.Within.{within}
 use Rattle.channel.specs.Laws.Within.{inside-block, outside-block}
-use borrow.Author.Needs.{needs}
 use Rattle.channel.proofs.Channel.within_block.Statement.{statement}
 use Rattle.channel.proofs.Channel.within_block.Tie as tie
 
 within-requires : tie.Need-within-requires
-within-requires c κs = search needs
+within-requires c κs = tt
 
 breaks-requires : tie.Need-breaks-requires
-breaks-requires c κs = search needs
+breaks-requires c κs = tt
 
 mode-requires : tie.Need-mode-requires
-mode-requires c κs = search needs
+mode-requires c κs = tt
 
 in-blocks-requires : tie.Need-in-blocks-requires
-in-blocks-requires c κs = search needs
+in-blocks-requires c κs = tt
 
 returns : tie.Need-returns
 returns c =

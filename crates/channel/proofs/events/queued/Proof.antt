@@ -1,14 +1,12 @@
--- `channel::Channel::queued` meets its contract: each return by the facts on its way. Assumes nothing.
 use Rattle.channel.proofs.Branch.{tests}
-use borrow.Author.Needs.{needs}
 use Rattle.channel.proofs.events.queued.Statement.{statement}
 use Rattle.channel.proofs.events.queued.Tie as tie
 
 push-requires : tie.Need-push-requires
-push-requires c κs = search needs
+push-requires c κs = tt
 
 returns : tie.Need-returns
-returns c = simp (tests, c .before .before .if1 .taken) (c .push .ensures)
+returns c = simp (tests, c .before .if1 .taken) (c .push .ensures)
 
 returns-2 : tie.Need-returns-2
 returns-2 c = simp (tests, c .if1 .left)

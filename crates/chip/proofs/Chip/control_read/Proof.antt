@@ -1,41 +1,40 @@
 use Rattle.chip.proofs.Branch.{tests}
 use Rattle.chip.specs.Chip.{controlReadCall}
-use borrow.Author.Needs.{needs}
 use Rattle.chip.proofs.Chip.control_read.Statement.{statement}
 use Rattle.chip.proofs.Chip.control_read.Tie as tie
 
 any-pending-requires : tie.Need-any-pending-requires
-any-pending-requires c κs = search needs
+any-pending-requires c κs = tt
 
 control-read-requires : tie.Need-control-read-requires
-control-read-requires c κs = search needs
+control-read-requires c κs = tt
 
 in-a-requires : tie.Need-in-a-requires
-in-a-requires c κs = search needs
+in-a-requires c κs = tt
 
 returns : tie.Need-returns
 unfolding controlReadCall
 returns c = simp (tests, c .in-a .ensures, c .before .before .before .if1 .taken, c .before .control-read .ensures, c .before .before .any-pending .ensures)
 
 rr2-requires : tie.Need-rr2-requires
-rr2-requires c κs = search needs
+rr2-requires c κs = tt
 
 control-read-requires-2 : tie.Need-control-read-requires-2
-control-read-requires-2 c κs = search needs
+control-read-requires-2 c κs = tt
 
 in-b-requires : tie.Need-in-b-requires
-in-b-requires c κs = search needs
+in-b-requires c κs = tt
 
 returns-2 : tie.Need-returns-2
 unfolding controlReadCall
 returns-2 c = simp (tests, c .in-b .ensures, c .before .before .before .if2 .taken, c .before .before .before .before .if1 .left, c .before .control-read2 .ensures, c .before .before .rr2 .ensures)
 
-refused-requires : tie.Need-refused-requires
-refused-requires c κs = search needs
+no-channel-requires : tie.Need-no-channel-requires
+no-channel-requires c κs = tt
 
 returns-3 : tie.Need-returns-3
 unfolding controlReadCall
-returns-3 c = simp (tests, c .before .if2 .left, c .before .before .if1 .left) (c .refused .ensures)
+returns-3 c = simp (tests, c .before .if2 .left, c .before .before .if1 .left) (c .no-channel .ensures)
 
 pub control-read-spec : {M : Type 1} → statement M
 control-read-spec =
@@ -49,5 +48,5 @@ control-read-spec =
     control-read-requires-2
     in-b-requires
     returns-2
-    refused-requires
+    no-channel-requires
     returns-3)

@@ -1,35 +1,34 @@
 use Rattle.chip.proofs.Branch.{tests}
 use Rattle.chip.specs.Chip.{dataReadCall}
-use borrow.Author.Needs.{needs}
 use Rattle.chip.proofs.Chip.data_read.Statement.{statement}
 use Rattle.chip.proofs.Chip.data_read.Tie as tie
 
 data-read-requires : tie.Need-data-read-requires
-data-read-requires c κs = search needs
+data-read-requires c κs = tt
 
 in-a-requires : tie.Need-in-a-requires
-in-a-requires c κs = search needs
+in-a-requires c κs = tt
 
 returns : tie.Need-returns
 unfolding dataReadCall
 returns c = simp (tests, c .in-a .ensures, c .before .before .if1 .taken, c .before .data-read .ensures)
 
 data-read-requires-2 : tie.Need-data-read-requires-2
-data-read-requires-2 c κs = search needs
+data-read-requires-2 c κs = tt
 
 in-b-requires : tie.Need-in-b-requires
-in-b-requires c κs = search needs
+in-b-requires c κs = tt
 
 returns-2 : tie.Need-returns-2
 unfolding dataReadCall
 returns-2 c = simp (tests, c .in-b .ensures, c .before .before .if2 .taken, c .before .before .before .if1 .left, c .before .data-read2 .ensures)
 
-refused-requires : tie.Need-refused-requires
-refused-requires c κs = search needs
+no-channel-requires : tie.Need-no-channel-requires
+no-channel-requires c κs = tt
 
 returns-3 : tie.Need-returns-3
 unfolding dataReadCall
-returns-3 c = simp (tests, c .before .if2 .left, c .before .before .if1 .left) (c .refused .ensures)
+returns-3 c = simp (tests, c .before .if2 .left, c .before .before .if1 .left) (c .no-channel .ensures)
 
 pub data-read-spec : {M : Type 1} → statement M
 data-read-spec =
@@ -41,5 +40,5 @@ data-read-spec =
     data-read-requires-2
     in-b-requires
     returns-2
-    refused-requires
+    no-channel-requires
     returns-3)

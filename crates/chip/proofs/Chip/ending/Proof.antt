@@ -1,15 +1,14 @@
 -- `chip::Chip::ending` meets its contract: each return by the facts on its way. Assumes nothing.
 use Rattle.chip.specs.Interrupts.{reti}
 use Rattle.chip.proofs.Branch.{tests}
-use borrow.Author.Needs.{needs}
 use Rattle.chip.proofs.Chip.ending.Statement.{statement}
 use Rattle.chip.proofs.Chip.ending.Tie as tie
 
 command-in-requires : tie.Need-command-in-requires
-command-in-requires c κs = search needs
+command-in-requires c κs = tt
 
 reti-requires : tie.Need-reti-requires
-reti-requires c κs = search needs
+reti-requires c κs = tt
 
 returns : tie.Need-returns
 unfolding reti

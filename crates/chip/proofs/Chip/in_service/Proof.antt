@@ -1,13 +1,12 @@
 use Rattle.chip.proofs.Branch.{tests}
-use borrow.Author.Needs.{needs}
 use Rattle.chip.proofs.Chip.in_service.Statement.{statement}
 use Rattle.chip.proofs.Chip.in_service.Tie as tie
 
 with-service-requires : tie.Need-with-service-requires
-with-service-requires c κs = search needs
+with-service-requires c κs = tt
 
 with-service-requires-2 : tie.Need-with-service-requires-2
-with-service-requires-2 c κs = search needs
+with-service-requires-2 c κs = tt
 
 returns : tie.Need-returns
 returns c = simp (tests, c .with-service2 .ensures, ← c .before .with-service .ensures)

@@ -1,57 +1,56 @@
 -- `chip::Chip::receive_b` meets its contract: each return by the facts on its way; inside a character the tick has a form of its own. Assumes
 -- nothing.
 use mathlib.Core.Path.{sym, _∙_}
-use lib.Dec.{eqb}
 use Rattle.channel.specs.Laws.Within.{receive-within, block-hear}
-use Rattle.chip.proofs.Branch.{tests}
 use borrow.Author.Needs.{needs}
 use Rattle.chip.proofs.Chip.receive_b.Statement.{statement}
 use Rattle.chip.proofs.Chip.receive_b.Tie as tie
 
-refused-requires : tie.Need-refused-requires
-refused-requires c κs = search needs
-
-returns : tie.Need-returns
-returns c = simp (tests, c .before .if1 .taken) (c .refused .ensures)
-
 hears-block-requires : tie.Need-hears-block-requires
-hears-block-requires c κs = search needs
+hears-block-requires c κs = tt
 
 hear-block-requires : tie.Need-hear-block-requires
-hear-block-requires c κs = search needs
+hear-block-requires c κs = tt
 
 in-b-requires : tie.Need-in-b-requires
-in-b-requires c κs = search needs
+in-b-requires c κs = tt
+
+returns : tie.Need-returns
+returns c =
+    let a = c .before .before .before .before .args in
+    simp (c .in-b .ensures, c .before .hear-block .ensures, block-hear (a .self .b) (a .bit) (sym (c .before .before .before .hears-block .ensures) ∙ c .before .before .if1 .taken))
+
+hears-within-requires : tie.Need-hears-within-requires
+hears-within-requires c κs = tt
+
+hear-within-requires : tie.Need-hear-within-requires
+hear-within-requires c κs = tt
+
+in-b-requires-2 : tie.Need-in-b-requires-2
+in-b-requires-2 c κs = tt
 
 returns-2 : tie.Need-returns-2
 returns-2 c =
-    let a = c .before .before .before .before .before .args in
-    let e = block-hear (a .self .b) (eqb (a .bit) 1) (sym (c .before .before .before .hears-block .ensures) ∙ c .before .before .if2 .taken) in
-    simp (tests, c .in-b .ensures, c .before .hear-block .ensures, c .before .before .before .before .if1 .left, e)
-
-hears-within-requires : tie.Need-hears-within-requires
-hears-within-requires c κs = search needs
-
-hear-within-requires : tie.Need-hear-within-requires
-hear-within-requires c κs = search needs
-
-in-b-requires-2 : tie.Need-in-b-requires-2
-in-b-requires-2 c κs = search needs
-
-returns-3 : tie.Need-returns-3
-returns-3 c =
-    let a = c .before .before .before .before .before .before .before .args in
-    let e = receive-within (a .self .b) (eqb (a .bit) 1) (sym (c .before .before .before .hears-within .ensures) ∙ c .before .before .if3 .taken) in
-    simp (tests, c .in-b2 .ensures, c .before .hear-within .ensures, c .before .before .before .before .before .before .if1 .left, e)
+    let a = c .before .before .before .before .before .before .args in
+    simp (c .in-b2 .ensures, c .before .hear-within .ensures, receive-within (a .self .b) (a .bit) (sym (c .before .before .before .hears-within .ensures) ∙ c .before .before .if2 .taken))
 
 heard-b-requires : tie.Need-heard-b-requires
-heard-b-requires c κs = search needs
+heard-b-requires c κs = tt
 
-returns-4 : tie.Need-returns-4
-returns-4 c = simp (tests, c .before .before .before .before .before .if1 .left) (c .heard-b .ensures)
+returns-3 : tie.Need-returns-3
+returns-3 c = search needs
 
 pub receive-b-spec : {M : Type 1} → statement M
 receive-b-spec =
     tie.close
-    (tie.spec refused-requires returns hears-block-requires hear-block-requires in-b-requires returns-2 hears-within-requires
-    hear-within-requires in-b-requires-2 returns-3 heard-b-requires returns-4)
+    (tie.spec
+    hears-block-requires
+    hear-block-requires
+    in-b-requires
+    returns
+    hears-within-requires
+    hear-within-requires
+    in-b-requires-2
+    returns-2
+    heard-b-requires
+    returns-3)

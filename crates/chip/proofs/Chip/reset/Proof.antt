@@ -1,13 +1,12 @@
 use Rattle.chip.proofs.Branch.{tests}
-use borrow.Author.Needs.{needs}
 use Rattle.chip.proofs.Chip.reset.Statement.{statement}
 use Rattle.chip.proofs.Chip.reset.Tie as tie
 
 reset-requires : tie.Need-reset-requires
-reset-requires c κs = search needs
+reset-requires c κs = tt
 
 reset-requires-2 : tie.Need-reset-requires-2
-reset-requires-2 c κs = search needs
+reset-requires-2 c κs = tt
 
 returns : tie.Need-returns
 returns c = simp (tests, c .reset2 .ensures, ← c .before .reset .ensures)

@@ -1,17 +1,16 @@
 use Rattle.chip.proofs.Branch.{tests}
 use Rattle.chip.specs.Interrupts.{reti}
-use borrow.Author.Needs.{needs}
 use Rattle.chip.proofs.Chip.reti.Statement.{statement}
 use Rattle.chip.proofs.Chip.reti.Tie as tie
 
 service-requires : tie.Need-service-requires
-service-requires c κs = search needs
+service-requires c κs = tt
 
 reti-requires : tie.Need-reti-requires
-reti-requires c κs = search needs
+reti-requires c κs = tt
 
 in-service-requires : tie.Need-in-service-requires
-in-service-requires c κs = search needs
+in-service-requires c κs = tt
 
 returns : tie.Need-returns
 unfolding reti

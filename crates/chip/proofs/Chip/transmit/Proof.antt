@@ -1,30 +1,29 @@
 -- `chip::Chip::transmit` meets its contract: each return by the facts on its way. Assumes nothing.
 use Rattle.chip.proofs.Branch.{tests}
 use Rattle.chip.specs.Chip.{transmitCall}
-use borrow.Author.Needs.{needs}
 use Rattle.chip.proofs.Chip.transmit.Statement.{statement}
 use Rattle.chip.proofs.Chip.transmit.Tie as tie
 
 transmit-a-requires : tie.Need-transmit-a-requires
-transmit-a-requires c κs = search needs
+transmit-a-requires c κs = tt
 
 returns : tie.Need-returns
 unfolding transmitCall
 returns c = simp (tests, c .before .if1 .taken) (c .transmit-a .ensures)
 
 transmit-b-requires : tie.Need-transmit-b-requires
-transmit-b-requires c κs = search needs
+transmit-b-requires c κs = tt
 
 returns-2 : tie.Need-returns-2
 unfolding transmitCall
 returns-2 c = simp (tests, c .before .if2 .taken, c .before .before .if1 .left) (c .transmit-b .ensures)
 
-refused-requires : tie.Need-refused-requires
-refused-requires c κs = search needs
+no-channel-requires : tie.Need-no-channel-requires
+no-channel-requires c κs = tt
 
 returns-3 : tie.Need-returns-3
 unfolding transmitCall
-returns-3 c = simp (tests, c .before .if2 .left, c .before .before .if1 .left) (c .refused .ensures)
+returns-3 c = simp (tests, c .before .if2 .left, c .before .before .if1 .left) (c .no-channel .ensures)
 
 pub transmit-spec : {M : Type 1} → statement M
-transmit-spec = tie.close (tie.spec transmit-a-requires returns transmit-b-requires returns-2 refused-requires returns-3)
+transmit-spec = tie.close (tie.spec transmit-a-requires returns transmit-b-requires returns-2 no-channel-requires returns-3)

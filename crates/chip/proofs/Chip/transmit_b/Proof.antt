@@ -1,18 +1,17 @@
 -- `chip::Chip::transmit_b` meets its contract: inside a byte the tick has a form of its own. Assumes nothing.
 use mathlib.Core.Path.{sym, _∙_}
 use Rattle.channel.specs.Laws.Within.{within-tick, block-tick}
-use borrow.Author.Needs.{needs}
 use Rattle.chip.proofs.Chip.transmit_b.Statement.{statement}
 use Rattle.chip.proofs.Chip.transmit_b.Tie as tie
 
 within-requires : tie.Need-within-requires
-within-requires c κs = search needs
+within-requires c κs = tt
 
 tick-within-requires : tie.Need-tick-within-requires
-tick-within-requires c κs = search needs
+tick-within-requires c κs = tt
 
 in-b-requires : tie.Need-in-b-requires
-in-b-requires c κs = search needs
+in-b-requires c κs = tt
 
 returns : tie.Need-returns
 returns c =
@@ -21,13 +20,13 @@ returns c =
     simp (e, ← c .before .tick-within .ensures) (c .in-b .ensures)
 
 within-block-requires : tie.Need-within-block-requires
-within-block-requires c κs = search needs
+within-block-requires c κs = tt
 
 tick-block-requires : tie.Need-tick-block-requires
-tick-block-requires c κs = search needs
+tick-block-requires c κs = tt
 
 in-b-requires-2 : tie.Need-in-b-requires-2
-in-b-requires-2 c κs = search needs
+in-b-requires-2 c κs = tt
 
 returns-2 : tie.Need-returns-2
 returns-2 c =
@@ -36,10 +35,10 @@ returns-2 c =
     simp (e, ← c .before .tick-block .ensures) (c .in-b2 .ensures)
 
 ticked-requires : tie.Need-ticked-requires
-ticked-requires c κs = search needs
+ticked-requires c κs = tt
 
 in-b-requires-3 : tie.Need-in-b-requires-3
-in-b-requires-3 c κs = search needs
+in-b-requires-3 c κs = tt
 
 returns-3 : tie.Need-returns-3
 returns-3 c = simp (← c .before .ticked .ensures) (c .in-b3 .ensures)

@@ -5,7 +5,7 @@ use Rattle.feed.proofs.through.bits_on.Statement.{statement}
 use Rattle.feed.proofs.through.bits_on.Tie as tie
 
 one-if-requires : tie.Need-one-if-requires
-one-if-requires c κs = search needs
+one-if-requires c κs = tt
 
 add-t4 : tie.Need-add-t4
 add-t4 c = search needs
@@ -17,7 +17,7 @@ sub-t6 : tie.Need-sub-t6
 sub-t6 c = search needs
 
 counted-requires : tie.Need-counted-requires
-counted-requires c κs = search needs
+counted-requires c κs = tt
 
 returns : tie.Need-returns
 returns c = rw (c .counted .ensures, c .before .before .before .before .before .one-if .ensures .0)

@@ -19,10 +19,10 @@ abbrev μ-loop : tie.MeasureT-loop
 μ-loop shared x₀ x = x .left
 
 byte-left-requires : tie.Need-byte-left-requires Inv-loop μ-loop
-byte-left-requires c κs = search needs
+byte-left-requires c κs = tt
 
 byte-rest-requires : tie.Need-byte-rest-requires Inv-loop μ-loop
-byte-rest-requires c κs = search needs
+byte-rest-requires c κs = tt
 
 loop-holds : tie.Need-loop-holds Inv-loop μ-loop
 loop-holds c = let few : c .before .byte-left .result ≤ 255 = search needs in (omega arith, refl)

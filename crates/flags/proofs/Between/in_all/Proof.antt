@@ -7,7 +7,7 @@ enum-told : tie.Need-enum-told
 enum-told c = search needs
 
 less-shared-requires : tie.Need-less-shared-requires
-less-shared-requires c κs = search needs
+less-shared-requires c κs = tt
 
 enum-told-2 : tie.Need-enum-told-2
 enum-told-2 c = search needs

@@ -1,25 +1,24 @@
 -- `framing::inside::tick_within` meets its contract: each return by the facts on its way. Assumes nothing.
 use Rattle.framing.proofs.Branch.{tests}
 use Rattle.sdlc.specs.Within.{tickWithin}
-use borrow.Author.Needs.{needs}
 use Rattle.framing.proofs.inside.tick_within.Statement.{statement}
 use Rattle.framing.proofs.inside.tick_within.Tie as tie
 
 owed-zero-requires : tie.Need-owed-zero-requires
-owed-zero-requires c κs = search needs
+owed-zero-requires c κs = tt
 
 returns : tie.Need-returns
 unfolding tickWithin
 returns c = simp (tests, c .before .if1 .taken) (c .owed-zero .ensures)
 
 byte-left-requires : tie.Need-byte-left-requires
-byte-left-requires c κs = search needs
+byte-left-requires c κs = tt
 
 byte-rest-requires : tie.Need-byte-rest-requires
-byte-rest-requires c κs = search needs
+byte-rest-requires c κs = tt
 
 byte-on-requires : tie.Need-byte-on-requires
-byte-on-requires c κs = search needs
+byte-on-requires c κs = tt
 
 returns-2 : tie.Need-returns-2
 unfolding tickWithin

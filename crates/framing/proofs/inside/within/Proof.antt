@@ -1,11 +1,10 @@
 -- `framing::inside::within` meets its contract: each return by the facts on its way. Assumes nothing.
 use Rattle.framing.proofs.Branch.{tests}
-use borrow.Author.Needs.{needs}
 use Rattle.framing.proofs.inside.within.Statement.{statement}
 use Rattle.framing.proofs.inside.within.Tie as tie
 
 byte-left-requires : tie.Need-byte-left-requires
-byte-left-requires c κs = search needs
+byte-left-requires c κs = tt
 
 returns : tie.Need-returns
 returns c = simp (tests, c .byte-left .ensures)

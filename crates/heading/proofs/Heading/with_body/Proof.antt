@@ -1,14 +1,13 @@
 -- `heading::Heading::with_body` meets its contract, by what its calls ensure. Assumes nothing.
 use Rattle.heading.specs.Heading.{withBody}
-use borrow.Author.Needs.{needs}
 use Rattle.heading.proofs.Heading.with_body.Statement.{statement}
 use Rattle.heading.proofs.Heading.with_body.Tie as tie
 
 fit-together-requires : tie.Need-fit-together-requires
-fit-together-requires c κs = search needs
+fit-together-requires c κs = tt
 
 check-text-requires : tie.Need-check-text-requires
-check-text-requires c κs = search needs
+check-text-requires c κs = tt
 
 returns : tie.Need-returns
 unfolding withBody

@@ -1,17 +1,16 @@
 -- `heading::Heading::with_checked_body` meets its contract, by what its calls ensure. Assumes nothing.
 use Rattle.heading.specs.Heading.{withCheckedBody}
-use borrow.Author.Needs.{needs}
 use Rattle.heading.proofs.Heading.with_checked_body.Statement.{statement}
 use Rattle.heading.proofs.Heading.with_checked_body.Tie as tie
 
 fit-together-requires : tie.Need-fit-together-requires
-fit-together-requires c κs = search needs
+fit-together-requires c κs = tt
 
 sdlc-requires : tie.Need-sdlc-requires
-sdlc-requires c κs = search needs
+sdlc-requires c κs = tt
 
 joined-requires : tie.Need-joined-requires
-joined-requires c κs = search needs
+joined-requires c κs = tt
 
 returns : tie.Need-returns
 unfolding withCheckedBody

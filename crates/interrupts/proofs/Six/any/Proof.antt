@@ -1,11 +1,10 @@
 use Rattle.interrupts.proofs.Branch.{tests}
 use Rattle.interrupts.specs.Interrupts.{anyOf}
-use borrow.Author.Needs.{needs}
 use Rattle.interrupts.proofs.Six.any.Statement.{statement}
 use Rattle.interrupts.proofs.Six.any.Tie as tie
 
 highest-requires : tie.Need-highest-requires
-highest-requires c κs = search needs
+highest-requires c κs = tt
 
 returns : tie.Need-returns
 unfolding anyOf

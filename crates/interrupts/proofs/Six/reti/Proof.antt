@@ -1,14 +1,13 @@
 use Rattle.interrupts.proofs.Branch.{tests}
 use Rattle.interrupts.specs.Interrupts.{ended}
-use borrow.Author.Needs.{needs}
 use Rattle.interrupts.proofs.Six.reti.Statement.{statement}
 use Rattle.interrupts.proofs.Six.reti.Tie as tie
 
 highest-requires : tie.Need-highest-requires
-highest-requires c κs = search needs
+highest-requires c κs = tt
 
 with-level-requires : tie.Need-with-level-requires
-with-level-requires c κs = search needs
+with-level-requires c κs = tt
 
 returns : tie.Need-returns
 unfolding ended

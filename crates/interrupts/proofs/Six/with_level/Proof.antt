@@ -1,18 +1,17 @@
 use Rattle.interrupts.proofs.Branch.{tests}
 use Rattle.interrupts.specs.Interrupts.{withLevel}
-use borrow.Author.Needs.{needs}
 use Rattle.interrupts.proofs.Six.with_level.Statement.{statement}
 use Rattle.interrupts.proofs.Six.with_level.Tie as tie
 
 with-source-requires : tie.Need-with-source-requires
-with-source-requires c κs = search needs
+with-source-requires c κs = tt
 
 returns : tie.Need-returns
 unfolding withLevel
 returns c = simp (tests, c .with-source .ensures, c .before .if1 .taken)
 
 with-source-requires-2 : tie.Need-with-source-requires-2
-with-source-requires-2 c κs = search needs
+with-source-requires-2 c κs = tt
 
 returns-2 : tie.Need-returns-2
 unfolding withLevel

@@ -6,13 +6,13 @@ use Rattle.listening.proofs.within.hear_within.Statement.{statement}
 use Rattle.listening.proofs.within.hear_within.Tie as tie
 
 count-after-requires : tie.Need-count-after-requires
-count-after-requires c κs = search needs
+count-after-requires c κs = tt
 
 shift-in-requires : tie.Need-shift-in-requires
-shift-in-requires c κs = search needs
+shift-in-requires c κs = tt
 
 ones-after-requires : tie.Need-ones-after-requires
-ones-after-requires c κs = search needs
+ones-after-requires c κs = tt
 
 mul-t10 : tie.Need-mul-t10
 mul-t10 c = search needs
@@ -21,13 +21,13 @@ add-t11 : tie.Need-add-t11
 add-t11 c = search needs
 
 bit-requires : tie.Need-bit-requires
-bit-requires c κs = search needs
+bit-requires c κs = tt
 
 add-t13 : tie.Need-add-t13
 add-t13 c = search needs
 
 check-step-requires : tie.Need-check-step-requires
-check-step-requires c κs = search needs
+check-step-requires c κs = tt
 
 returns : tie.Need-returns
 unfolding movedOn

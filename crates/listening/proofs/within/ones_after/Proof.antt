@@ -5,7 +5,7 @@ use Rattle.listening.proofs.within.ones_after.Statement.{statement}
 use Rattle.listening.proofs.within.ones_after.Tie as tie
 
 ones-counted-requires : tie.Need-ones-counted-requires
-ones-counted-requires c κs = search needs
+ones-counted-requires c κs = tt
 
 returns : tie.Need-returns
 returns c = simp (tests, c .before .if1 .taken) (c .ones-counted .ensures)

@@ -1,11 +1,10 @@
 -- `opening::calling::control` meets its contract. Assumes nothing.
 use Rattle.drive.specs.Drive.{controlA}
-use borrow.Author.Needs.{needs}
 use Rattle.opening.proofs.calling.control.Statement.{statement}
 use Rattle.opening.proofs.calling.control.Tie as tie
 
 control-write-requires : tie.Need-control-write-requires
-control-write-requires c κs = search needs
+control-write-requires c κs = tt
 
 returns : tie.Need-returns
 unfolding controlA

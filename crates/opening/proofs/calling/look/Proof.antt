@@ -1,11 +1,10 @@
 -- `opening::calling::look` meets its contract. Assumes nothing.
 use Rattle.drive.specs.Drive.{lookA}
-use borrow.Author.Needs.{needs}
 use Rattle.opening.proofs.calling.look.Statement.{statement}
 use Rattle.opening.proofs.calling.look.Tie as tie
 
 control-read-requires : tie.Need-control-read-requires
-control-read-requires c κs = search needs
+control-read-requires c κs = tt
 
 returns : tie.Need-returns
 unfolding lookA

@@ -1,11 +1,10 @@
 -- `opening::calling::write` meets its contract. Assumes nothing.
 use Rattle.drive.specs.Drive.{writeA}
-use borrow.Author.Needs.{needs}
 use Rattle.opening.proofs.calling.write.Statement.{statement}
 use Rattle.opening.proofs.calling.write.Tie as tie
 
 data-write-requires : tie.Need-data-write-requires
-data-write-requires c κs = search needs
+data-write-requires c κs = tt
 
 returns : tie.Need-returns
 unfolding writeA

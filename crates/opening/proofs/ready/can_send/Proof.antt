@@ -1,11 +1,10 @@
 -- `opening::ready::can_send` meets its contract. Assumes nothing.
 use Rattle.drive.specs.Drive.{canSend}
-use borrow.Author.Needs.{needs}
 use Rattle.opening.proofs.ready.can_send.Statement.{statement}
 use Rattle.opening.proofs.ready.can_send.Tie as tie
 
 in-sdlc-requires : tie.Need-in-sdlc-requires
-in-sdlc-requires c κs = search needs
+in-sdlc-requires c κs = tt
 
 returns : tie.Need-returns
 unfolding canSend

@@ -1,14 +1,13 @@
 -- `opening::ready::freed` meets its contract. Assumes nothing.
 use Rattle.drive.specs.Drive.{freed}
-use borrow.Author.Needs.{needs}
 use Rattle.opening.proofs.ready.freed.Statement.{statement}
 use Rattle.opening.proofs.ready.freed.Tie as tie
 
 can-send-requires : tie.Need-can-send-requires
-can-send-requires c κs = search needs
+can-send-requires c κs = tt
 
 stands-still-requires : tie.Need-stands-still-requires
-stands-still-requires c κs = search needs
+stands-still-requires c κs = tt
 
 returns : tie.Need-returns
 unfolding freed
@@ -16,10 +15,10 @@ returns c =
     simp (← c .before .stands-still .ensures, ← c .before .before .can-send .ensures, c .if1 .taken)
 
 aborting-requires : tie.Need-aborting-requires
-aborting-requires c κs = search needs
+aborting-requires c κs = tt
 
 control-requires : tie.Need-control-requires
-control-requires c κs = search needs
+control-requires c κs = tt
 
 returns-2 : tie.Need-returns-2
 unfolding freed
@@ -33,7 +32,7 @@ returns-2 c =
     ) (c .control .ensures)
 
 set-up-requires : tie.Need-set-up-requires
-set-up-requires c κs = search needs
+set-up-requires c κs = tt
 
 returns-3 : tie.Need-returns-3
 unfolding freed

@@ -1,17 +1,16 @@
 -- `opening::ready::prepared` meets its contract. Assumes nothing.
 use Rattle.drive.specs.Drive.{prepared}
-use borrow.Author.Needs.{needs}
 use Rattle.opening.proofs.ready.prepared.Statement.{statement}
 use Rattle.opening.proofs.ready.prepared.Tie as tie
 
 look-requires : tie.Need-look-requires
-look-requires c κs = search needs
+look-requires c κs = tt
 
 sending-requires : tie.Need-sending-requires
-sending-requires c κs = search needs
+sending-requires c κs = tt
 
 freed-requires : tie.Need-freed-requires
-freed-requires c κs = search needs
+freed-requires c κs = tt
 
 returns : tie.Need-returns
 unfolding prepared

@@ -1,23 +1,22 @@
 -- `opening::ready::set_up` meets its contract. Assumes nothing.
 use Rattle.drive.specs.Drive.{setUp}
-use borrow.Author.Needs.{needs}
 use Rattle.opening.proofs.ready.set_up.Statement.{statement}
 use Rattle.opening.proofs.ready.set_up.Tie as tie
 
 control-requires : tie.Need-control-requires
-control-requires c κs = search needs
+control-requires c κs = tt
 
 control-requires-2 : tie.Need-control-requires-2
-control-requires-2 c κs = search needs
+control-requires-2 c κs = tt
 
 control-requires-3 : tie.Need-control-requires-3
-control-requires-3 c κs = search needs
+control-requires-3 c κs = tt
 
 control-requires-4 : tie.Need-control-requires-4
-control-requires-4 c κs = search needs
+control-requires-4 c κs = tt
 
 control-requires-5 : tie.Need-control-requires-5
-control-requires-5 c κs = search needs
+control-requires-5 c κs = tt
 
 returns : tie.Need-returns
 unfolding setUp

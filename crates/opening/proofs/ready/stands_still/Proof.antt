@@ -1,12 +1,11 @@
 -- `opening::ready::stands_still` meets its contract. Assumes nothing.
 use Rattle.opening.proofs.Branch.{tests}
 use Rattle.drive.specs.Drive.{standsStill}
-use borrow.Author.Needs.{needs}
 use Rattle.opening.proofs.ready.stands_still.Statement.{statement}
 use Rattle.opening.proofs.ready.stands_still.Tie as tie
 
 between-frames-requires : tie.Need-between-frames-requires
-between-frames-requires c κs = search needs
+between-frames-requires c κs = tt
 
 returns : tie.Need-returns
 unfolding standsStill

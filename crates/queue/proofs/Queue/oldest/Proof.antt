@@ -6,7 +6,7 @@ use Rattle.queue.proofs.Queue.oldest.Statement.{statement}
 use Rattle.queue.proofs.Queue.oldest.Tie as tie
 
 none-requires : tie.Need-none-requires
-none-requires c κs = search needs
+none-requires c κs = tt
 
 returns : tie.Need-returns
 unfolding oldest

@@ -13,7 +13,7 @@ unfolding pushed
 returns c = simp (tests, c .before .before .before .before .if1 .taken)
 
 wide-requires : tie.Need-wide-requires
-wide-requires c κs = search needs
+wide-requires c κs = tt
 
 mul-es : tie.Need-mul-es
 mul-es c = search needs
@@ -29,7 +29,7 @@ unfolding pushed
 returns-2 c = simp (tests, c .wide .ensures, c .before .if2 .taken, c .before .before .if1 .left)
 
 overran-requires : tie.Need-overran-requires
-overran-requires c κs = search needs
+overran-requires c κs = tt
 
 array-set-from-es-3 : tie.Need-array-set-from-es-3
 array-set-from-es-3 c = search needs

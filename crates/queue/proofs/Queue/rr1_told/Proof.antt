@@ -1,15 +1,14 @@
 -- `queue::Queue::rr1_told` meets its contract: each return by the facts on its way. Assumes nothing.
 use Rattle.queue.proofs.Branch.{tests}
 use Rattle.queue.specs.Queue.{rr1Told}
-use borrow.Author.Needs.{needs}
 use Rattle.queue.proofs.Queue.rr1_told.Statement.{statement}
 use Rattle.queue.proofs.Queue.rr1_told.Tie as tie
 
 oldest-requires : tie.Need-oldest-requires
-oldest-requires c κs = search needs
+oldest-requires c κs = tt
 
 rr1-with-requires : tie.Need-rr1-with-requires
-rr1-with-requires c κs = search needs
+rr1-with-requires c κs = tt
 
 returns : tie.Need-returns
 unfolding rr1Told

@@ -1,15 +1,14 @@
 -- `queue::Queue::special` meets its contract: each return by the facts on its way. Assumes nothing.
 use Rattle.queue.proofs.Branch.{tests}
 use Rattle.queue.specs.Queue.{special}
-use borrow.Author.Needs.{needs}
 use Rattle.queue.proofs.Queue.special.Statement.{statement}
 use Rattle.queue.proofs.Queue.special.Tie as tie
 
 oldest-requires : tie.Need-oldest-requires
-oldest-requires c κs = search needs
+oldest-requires c κs = tt
 
 special-requires : tie.Need-special-requires
-special-requires c κs = search needs
+special-requires c κs = tt
 
 returns : tie.Need-returns
 unfolding special

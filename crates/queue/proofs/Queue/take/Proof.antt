@@ -39,7 +39,7 @@ element-copy-out-t10 : tie.Need-element-copy-out-t10
 element-copy-out-t10 c = search needs
 
 none-requires : tie.Need-none-requires
-none-requires c κs = search needs
+none-requires c κs = tt
 
 sub-t14 : tie.Need-sub-t14
 sub-t14 c = search needs

@@ -1,11 +1,10 @@
 -- `receiver::Receiver::by_listener` meets its contract: each return by the facts on its way. Assumes nothing.
 use Rattle.receiver.proofs.Branch.{tests}
-use borrow.Author.Needs.{needs}
 use Rattle.receiver.proofs.Receiver.by_listener.Statement.{statement}
 use Rattle.receiver.proofs.Receiver.by_listener.Tie as tie
 
 with-listener-requires : tie.Need-with-listener-requires
-with-listener-requires c κs = search needs
+with-listener-requires c κs = tt
 
 returns : tie.Need-returns
 returns c = simp (tests, c .with-listener .ensures)

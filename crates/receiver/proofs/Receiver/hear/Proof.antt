@@ -10,10 +10,10 @@ use Rattle.receiver.proofs.Receiver.hear.Statement.{statement}
 use Rattle.receiver.proofs.Receiver.hear.Tie as tie
 
 in-blocks-requires : tie.Need-in-blocks-requires
-in-blocks-requires c κs = search needs
+in-blocks-requires c κs = tt
 
 hear-block-requires : tie.Need-hear-block-requires
-hear-block-requires c κs = search needs
+hear-block-requires c κs = tt
 
 returns : tie.Need-returns
 returns c =
@@ -25,60 +25,60 @@ enum-told : tie.Need-enum-told
 enum-told c = search needs
 
 silent-requires : tie.Need-silent-requires
-silent-requires c κs = search needs
+silent-requires c κs = tt
 
 enum-told-2 : tie.Need-enum-told-2
 enum-told-2 c = search needs
 
 hear-requires : tie.Need-hear-requires
-hear-requires c κs = search needs
+hear-requires c κs = tt
 
 by-assembly-requires : tie.Need-by-assembly-requires
-by-assembly-requires c κs = search needs
+by-assembly-requires c κs = tt
 
 returns-2 : tie.Need-returns-2
 unfolding hear
 returns-2 c = simp (tests, c .before .before .if2 .taken, c .before .before .before .enum-told2 .given .1, ← c .before .hear .ensures) (c .by-assembly .ensures)
 
 dropped-requires : tie.Need-dropped-requires
-dropped-requires c κs = search needs
+dropped-requires c κs = tt
 
 silent-requires-2 : tie.Need-silent-requires-2
-silent-requires-2 c κs = search needs
+silent-requires-2 c κs = tt
 
 enum-told-3 : tie.Need-enum-told-3
 enum-told-3 c = search needs
 
 silent-requires-3 : tie.Need-silent-requires-3
-silent-requires-3 c κs = search needs
+silent-requires-3 c κs = tt
 
 enum-told-4 : tie.Need-enum-told-4
 enum-told-4 c = search needs
 
 silent-requires-4 : tie.Need-silent-requires-4
-silent-requires-4 c κs = search needs
+silent-requires-4 c κs = tt
 
 enum-told-5 : tie.Need-enum-told-5
 enum-told-5 c = search needs
 
 listener-requires : tie.Need-listener-requires
-listener-requires c κs = search needs
+listener-requires c κs = tt
 
 hear-requires-2 : tie.Need-hear-requires-2
-hear-requires-2 c κs = search needs
+hear-requires-2 c κs = tt
 
 by-listener-requires : tie.Need-by-listener-requires
-by-listener-requires c κs = search needs
+by-listener-requires c κs = tt
 
 returns-3 : tie.Need-returns-3
 unfolding hear
 returns-3 c = simp (tests, c .before .before .before .if3 .taken, c .before .before .before .before .enum-told5 .given .1, ← c .before .hear2 .ensures, ← c .before .before .listener .ensures) (c .by-listener .ensures)
 
 dropped-requires-2 : tie.Need-dropped-requires-2
-dropped-requires-2 c κs = search needs
+dropped-requires-2 c κs = tt
 
 silent-requires-5 : tie.Need-silent-requires-5
-silent-requires-5 c κs = search needs
+silent-requires-5 c κs = tt
 
 returns-4 : tie.Need-returns-4
 unfolding hear

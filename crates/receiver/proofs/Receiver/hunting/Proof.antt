@@ -1,14 +1,13 @@
 -- `receiver::Receiver::hunting` meets its contract: each return by the facts on its way. Assumes nothing.
 use Rattle.receiver.proofs.Branch.{tests}
-use borrow.Author.Needs.{needs}
 use Rattle.receiver.proofs.Receiver.hunting.Statement.{statement}
 use Rattle.receiver.proofs.Receiver.hunting.Tie as tie
 
 in-sdlc-requires : tie.Need-in-sdlc-requires
-in-sdlc-requires c κs = search needs
+in-sdlc-requires c κs = tt
 
 in-blocks-requires : tie.Need-in-blocks-requires
-in-blocks-requires c κs = search needs
+in-blocks-requires c κs = tt
 
 returns : tie.Need-returns
 returns c = simp (tests, ← c .before .in-blocks .ensures, ← c .before .before .before .in-sdlc .ensures)

@@ -1,11 +1,10 @@
 -- `receiver::Receiver::preset_check` meets its contract: each return by the facts on its way. Assumes nothing.
 use Rattle.receiver.proofs.Branch.{tests}
-use borrow.Author.Needs.{needs}
 use Rattle.receiver.proofs.Receiver.preset_check.Statement.{statement}
 use Rattle.receiver.proofs.Receiver.preset_check.Tie as tie
 
 preset-for-requires : tie.Need-preset-for-requires
-preset-for-requires c κs = search needs
+preset-for-requires c κs = tt
 
 returns : tie.Need-returns
 returns c = simp (tests, c .preset-for .ensures)

@@ -1,17 +1,16 @@
 -- `receiver::Receiver::reset` meets its contract: each return by the facts on its way. Assumes nothing.
 use Rattle.receiver.proofs.Branch.{tests}
-use borrow.Author.Needs.{needs}
 use Rattle.receiver.proofs.Receiver.reset.Statement.{statement}
 use Rattle.receiver.proofs.Receiver.reset.Tie as tie
 
 at-requires : tie.Need-at-requires
-at-requires c κs = search needs
+at-requires c κs = tt
 
 none-requires : tie.Need-none-requires
-none-requires c κs = search needs
+none-requires c κs = tt
 
 searching-requires : tie.Need-searching-requires
-searching-requires c κs = search needs
+searching-requires c κs = tt
 
 returns : tie.Need-returns
 returns c = simp (tests, c .searching .ensures, ← c .before .none .ensures, ← c .before .before .at .ensures)

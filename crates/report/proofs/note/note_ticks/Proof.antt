@@ -5,13 +5,14 @@ use native.Mathlib.Omega.{arith}
 use lib.ListN.{length}
 use denote.Ref.{now}
 use Rattle.line.specs.Laws.Frame.{ticks-are, zeros-few}
-use Rattle.report.specs.Laws.Ticks.{fits-bounds, noteTicks-fits, counts, counts-none}
+use Rattle.line.specs.Laws.Line.{fits-few}
+use Rattle.report.specs.Laws.Ticks.{noteTicks-fits, counts, counts-none}
 use borrow.Author.Needs.{needs}
 use Rattle.report.proofs.note.note_ticks.Statement.{statement}
 use Rattle.report.proofs.note.note_ticks.Tie as tie
 
 zeros-of-requires : tie.Need-zeros-of-requires
-zeros-of-requires c κs = search needs
+zeros-of-requires c κs = tt
 
 enum-known-z : tie.Need-enum-known-z
 enum-known-z c = search needs
@@ -23,19 +24,19 @@ mul-result : tie.Need-mul-result
 mul-result c =
     let note = now (c .before .before .before .before .before .args .note) in
     let z = counts note _ (sym (c .before .before .before .zeros-of .ensures) ∙ c .before .z .given .1) in
-    omega (arith, fits-bounds (length note) (z .0) .1)
+    omega (arith, fits-few (length note) (z .0) .1)
 
 add-result-2 : tie.Need-add-result-2
 add-result-2 c =
     let note = now (c .before .before .before .before .before .args .note) in
     let z = counts note _ (sym (c .before .before .before .zeros-of .ensures) ∙ c .before .z .given .1) in
-    omega (arith, fits-bounds (length note) (z .0) .1)
+    omega (arith, fits-few (length note) (z .0) .1)
 
 add-result-3 : tie.Need-add-result-3
 add-result-3 c =
     let note = now (c .before .before .before .before .before .args .note) in
     let z = counts note _ (sym (c .before .before .before .zeros-of .ensures) ∙ c .before .z .given .1) in
-    omega (arith, fits-bounds (length note) (z .0) .1, z .1, zeros-few note)
+    omega (arith, fits-few (length note) (z .0) .1, z .1, zeros-few note)
 
 enum-told : tie.Need-enum-told
 enum-told c = search needs

@@ -1,11 +1,10 @@
 -- `sender::Sender::by_framer` meets its contract: each return by the facts on its way. Assumes nothing.
 use Rattle.sender.proofs.Branch.{tests}
-use borrow.Author.Needs.{needs}
 use Rattle.sender.proofs.Sender.by_framer.Statement.{statement}
 use Rattle.sender.proofs.Sender.by_framer.Tie as tie
 
 with-framer-requires : tie.Need-with-framer-requires
-with-framer-requires c κs = search needs
+with-framer-requires c κs = tt
 
 returns : tie.Need-returns
 returns c = simp (tests, c .with-framer .ensures)

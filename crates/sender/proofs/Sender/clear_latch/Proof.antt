@@ -1,14 +1,13 @@
 -- `sender::Sender::clear_latch` meets its contract: each return by the facts on its way. Assumes nothing.
 use Rattle.sender.proofs.Branch.{tests}
-use borrow.Author.Needs.{needs}
 use Rattle.sender.proofs.Sender.clear_latch.Statement.{statement}
 use Rattle.sender.proofs.Sender.clear_latch.Tie as tie
 
 cleared-requires : tie.Need-cleared-requires
-cleared-requires c κs = search needs
+cleared-requires c κs = tt
 
 with-shared-requires : tie.Need-with-shared-requires
-with-shared-requires c κs = search needs
+with-shared-requires c κs = tt
 
 returns : tie.Need-returns
 returns c = simp (tests, ← c .before .cleared .ensures) (c .with-shared .ensures)

@@ -1,17 +1,16 @@
 -- `sender::Sender::preset_check` meets its contract: each return by the facts on its way. Assumes nothing.
 use Rattle.sender.proofs.Branch.{tests}
-use borrow.Author.Needs.{needs}
 use Rattle.sender.proofs.Sender.preset_check.Statement.{statement}
 use Rattle.sender.proofs.Sender.preset_check.Tie as tie
 
 preset-for-requires : tie.Need-preset-for-requires
-preset-for-requires c κs = search needs
+preset-for-requires c κs = tt
 
 check-set-requires : tie.Need-check-set-requires
-check-set-requires c κs = search needs
+check-set-requires c κs = tt
 
 with-shared-requires : tie.Need-with-shared-requires
-with-shared-requires c κs = search needs
+with-shared-requires c κs = tt
 
 returns : tie.Need-returns
 returns c = simp (tests, ← c .before .check-set .ensures, ← c .before .before .preset-for .ensures) (c .with-shared .ensures)

@@ -2,21 +2,20 @@
 use mathlib.Core.Path.{ap, _∙_}
 use Rattle.sdlc.specs.Sending.{abortedBy}
 use Rattle.sender.specs.Sender.{framerIn}
-use borrow.Author.Needs.{needs}
 use Rattle.sender.proofs.Sender.send_abort.Statement.{statement}
 use Rattle.sender.proofs.Sender.send_abort.Tie as tie
 
 in-sdlc-requires : tie.Need-in-sdlc-requires
-in-sdlc-requires c κs = search needs
+in-sdlc-requires c κs = tt
 
 framer-requires : tie.Need-framer-requires
-framer-requires c κs = search needs
+framer-requires c κs = tt
 
 send-abort-requires : tie.Need-send-abort-requires
-send-abort-requires c κs = search needs
+send-abort-requires c κs = tt
 
 with-framer-requires : tie.Need-with-framer-requires
-with-framer-requires c κs = search needs
+with-framer-requires c κs = tt
 
 returns : tie.Need-returns
 returns c =

@@ -10,10 +10,10 @@ use Rattle.sender.proofs.Sender.tick.Statement.{statement}
 use Rattle.sender.proofs.Sender.tick.Tie as tie
 
 in-blocks-requires : tie.Need-in-blocks-requires
-in-blocks-requires c κs = search needs
+in-blocks-requires c κs = tt
 
 tick-block-requires : tie.Need-tick-block-requires
-tick-block-requires c κs = search needs
+tick-block-requires c κs = tt
 
 returns : tie.Need-returns
 returns c =
@@ -25,37 +25,37 @@ enum-told : tie.Need-enum-told
 enum-told c = search needs
 
 unticked-requires : tie.Need-unticked-requires
-unticked-requires c κs = search needs
+unticked-requires c κs = tt
 
 enum-told-2 : tie.Need-enum-told-2
 enum-told-2 c = search needs
 
 tick-requires : tie.Need-tick-requires
-tick-requires c κs = search needs
+tick-requires c κs = tt
 
 by-typist-requires : tie.Need-by-typist-requires
-by-typist-requires c κs = search needs
+by-typist-requires c κs = tt
 
 with-break-requires : tie.Need-with-break-requires
-with-break-requires c κs = search needs
+with-break-requires c κs = tt
 
 enum-told-3 : tie.Need-enum-told-3
 enum-told-3 c = search needs
 
 unticked-requires-2 : tie.Need-unticked-requires-2
-unticked-requires-2 c κs = search needs
+unticked-requires-2 c κs = tt
 
 enum-told-4 : tie.Need-enum-told-4
 enum-told-4 c = search needs
 
 unticked-requires-3 : tie.Need-unticked-requires-3
-unticked-requires-3 c κs = search needs
+unticked-requires-3 c κs = tt
 
 enum-told-5 : tie.Need-enum-told-5
 enum-told-5 c = search needs
 
 tick-framed-requires : tie.Need-tick-framed-requires
-tick-framed-requires c κs = search needs
+tick-framed-requires c κs = tt
 
 returns-2 : tie.Need-returns-2
 unfolding tick

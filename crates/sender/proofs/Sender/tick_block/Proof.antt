@@ -1,17 +1,16 @@
 -- `sender::Sender::tick_block` meets its contract: each return by the facts on its way. Assumes nothing.
 use Rattle.sender.proofs.Branch.{tests}
-use borrow.Author.Needs.{needs}
 use Rattle.sender.proofs.Sender.tick_block.Statement.{statement}
 use Rattle.sender.proofs.Sender.tick_block.Tie as tie
 
 tick-requires : tie.Need-tick-requires
-tick-requires c κs = search needs
+tick-requires c κs = tt
 
 by-syncing-requires : tie.Need-by-syncing-requires
-by-syncing-requires c κs = search needs
+by-syncing-requires c κs = tt
 
 with-break-requires : tie.Need-with-break-requires
-with-break-requires c κs = search needs
+with-break-requires c κs = tt
 
 returns : tie.Need-returns
 returns c = simp (tests, ← c .before .by-syncing .ensures, ← c .before .before .tick .ensures) (c .with-break .ensures)

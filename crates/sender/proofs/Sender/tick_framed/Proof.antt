@@ -1,20 +1,19 @@
 -- `sender::Sender::tick_framed` meets its contract: each return by the facts on its way. Assumes nothing.
 use Rattle.sender.proofs.Branch.{tests}
-use borrow.Author.Needs.{needs}
 use Rattle.sender.proofs.Sender.tick_framed.Statement.{statement}
 use Rattle.sender.proofs.Sender.tick_framed.Tie as tie
 
 framer-requires : tie.Need-framer-requires
-framer-requires c κs = search needs
+framer-requires c κs = tt
 
 tick-requires : tie.Need-tick-requires
-tick-requires c κs = search needs
+tick-requires c κs = tt
 
 by-framer-requires : tie.Need-by-framer-requires
-by-framer-requires c κs = search needs
+by-framer-requires c κs = tt
 
 with-break-requires : tie.Need-with-break-requires
-with-break-requires c κs = search needs
+with-break-requires c κs = tt
 
 returns : tie.Need-returns
 returns c =

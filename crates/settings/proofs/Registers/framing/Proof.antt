@@ -1,11 +1,10 @@
 -- `settings::Registers::framing` meets its contract: each return by the facts on its way. Assumes nothing.
 use Rattle.settings.proofs.Branch.{tests}
-use borrow.Author.Needs.{needs}
 use Rattle.settings.proofs.Registers.framing.Statement.{statement}
 use Rattle.settings.proofs.Registers.framing.Tie as tie
 
 sends-requires : tie.Need-sends-requires
-sends-requires c κs = search needs
+sends-requires c κs = tt
 
 returns : tie.Need-returns
 returns c = simp (tests, ← c .before .sends .ensures)

@@ -1,24 +1,23 @@
 -- `settings::Registers::receiving` meets its contract: each return by the facts on its way. Assumes nothing.
 use Rattle.settings.proofs.Branch.{tests}
 use Rattle.settings.specs.Settings.{receivingOf}
-use borrow.Author.Needs.{needs}
 use Rattle.settings.proofs.Registers.receiving.Statement.{statement}
 use Rattle.settings.proofs.Registers.receiving.Tie as tie
 
 mode-requires : tie.Need-mode-requires
-mode-requires c κs = search needs
+mode-requires c κs = tt
 
 auto-enables-requires : tie.Need-auto-enables-requires
-auto-enables-requires c κs = search needs
+auto-enables-requires c κs = tt
 
 format-requires : tie.Need-format-requires
-format-requires c κs = search needs
+format-requires c κs = tt
 
 syncs-requires : tie.Need-syncs-requires
-syncs-requires c κs = search needs
+syncs-requires c κs = tt
 
 polynomial-requires : tie.Need-polynomial-requires
-polynomial-requires c κs = search needs
+polynomial-requires c κs = tt
 
 returns : tie.Need-returns
 unfolding receivingOf

@@ -1,30 +1,29 @@
 -- `settings::Registers::sending` meets its contract: each return by the facts on its way. Assumes nothing.
 use Rattle.settings.proofs.Branch.{tests}
 use Rattle.settings.specs.Settings.{sendingOf}
-use borrow.Author.Needs.{needs}
 use Rattle.settings.proofs.Registers.sending.Statement.{statement}
 use Rattle.settings.proofs.Registers.sending.Tie as tie
 
 sends-requires : tie.Need-sends-requires
-sends-requires c κs = search needs
+sends-requires c κs = tt
 
 mode-requires : tie.Need-mode-requires
-mode-requires c κs = search needs
+mode-requires c κs = tt
 
 framing-requires : tie.Need-framing-requires
-framing-requires c κs = search needs
+framing-requires c κs = tt
 
 format-requires : tie.Need-format-requires
-format-requires c κs = search needs
+format-requires c κs = tt
 
 stops-of-requires : tie.Need-stops-of-requires
-stops-of-requires c κs = search needs
+stops-of-requires c κs = tt
 
 polynomial-requires : tie.Need-polynomial-requires
-polynomial-requires c κs = search needs
+polynomial-requires c κs = tt
 
 syncs-requires : tie.Need-syncs-requires
-syncs-requires c κs = search needs
+syncs-requires c κs = tt
 
 returns : tie.Need-returns
 unfolding sendingOf

@@ -1,11 +1,10 @@
 -- `settings::Registers::sends` meets its contract: each return by the facts on its way. Assumes nothing.
 use Rattle.settings.proofs.Branch.{tests}
-use borrow.Author.Needs.{needs}
 use Rattle.settings.proofs.Registers.sends.Statement.{statement}
 use Rattle.settings.proofs.Registers.sends.Tie as tie
 
 auto-enables-requires : tie.Need-auto-enables-requires
-auto-enables-requires c κs = search needs
+auto-enables-requires c κs = tt
 
 returns : tie.Need-returns
 returns c = simp (tests, ← c .before .auto-enables .ensures)

@@ -1,11 +1,10 @@
 -- `settings::Registers::with_wr4` meets its contract: each return by the facts on its way. Assumes nothing.
 use Rattle.settings.proofs.Branch.{tests}
-use borrow.Author.Needs.{needs}
 use Rattle.settings.proofs.Registers.with_wr4.Statement.{statement}
 use Rattle.settings.proofs.Registers.with_wr4.Tie as tie
 
 mode-of-requires : tie.Need-mode-of-requires
-mode-of-requires c κs = search needs
+mode-of-requires c κs = tt
 
 returns : tie.Need-returns
 returns c = simp (tests, c .mode-of .ensures)

@@ -1,14 +1,13 @@
 -- `shared::Shared::entered` meets its contract: each return by the facts on its way. Assumes nothing.
 use Rattle.shared.proofs.Branch.{tests}
-use borrow.Author.Needs.{needs}
 use Rattle.shared.proofs.Shared.entered.Statement.{statement}
 use Rattle.shared.proofs.Shared.entered.Tie as tie
 
 check-byte-requires : tie.Need-check-byte-requires
-check-byte-requires c κs = search needs
+check-byte-requires c κs = tt
 
 check-set-requires : tie.Need-check-set-requires
-check-set-requires c κs = search needs
+check-set-requires c κs = tt
 
 returns : tie.Need-returns
 returns c = simp (tests, c .before .before .if1 .taken, ← c .before .check-byte .ensures) (c .check-set .ensures)

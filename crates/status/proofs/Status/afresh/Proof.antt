@@ -1,12 +1,11 @@
 -- `status::Status::afresh` meets its contract: each return by the facts on its way. Assumes nothing.
 use Rattle.status.proofs.Branch.{tests}
 use Rattle.status.specs.Status.{afresh}
-use borrow.Author.Needs.{needs}
 use Rattle.status.proofs.Status.afresh.Statement.{statement}
 use Rattle.status.proofs.Status.afresh.Tie as tie
 
 changed-requires : tie.Need-changed-requires
-changed-requires c κs = search needs
+changed-requires c κs = tt
 
 returns : tie.Need-returns
 unfolding afresh

@@ -1,7 +1,6 @@
 -- `status::Status::noticed` meets its contract: each return by the facts on its way. Assumes nothing.
 use Rattle.status.proofs.Branch.{tests}
 use Rattle.status.specs.Status.{noticed}
-use borrow.Author.Needs.{needs}
 use Rattle.status.proofs.Status.noticed.Statement.{statement}
 use Rattle.status.proofs.Status.noticed.Tie as tie
 
@@ -10,7 +9,7 @@ unfolding noticed
 returns c = simp (tests, c .if1 .taken)
 
 changed-requires : tie.Need-changed-requires
-changed-requires c κs = search needs
+changed-requires c κs = tt
 
 returns-2 : tie.Need-returns-2
 unfolding noticed

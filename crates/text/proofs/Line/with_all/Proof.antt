@@ -1,5 +1,4 @@
 -- `text::Line::with_all` meets its contract: the bytes that are left, put from here, always end as all of them do. Assumes nothing.
-use borrow.Author.Needs.{needs}
 use Prim.Native.Nat.{_-_}
 use mathlib.Core.Path.{_≡_, refl}
 use native.Mathlib.Omega.{arith}
@@ -23,7 +22,7 @@ shared-slice-read-with : tie.Need-shared-slice-read-with Inv-loop μ-loop
 shared-slice-read-with c = omega arith
 
 with-requires : tie.Need-with-requires Inv-loop μ-loop
-with-requires c κs = search needs
+with-requires c κs = tt
 
 add-i : tie.Need-add-i Inv-loop μ-loop
 add-i c = omega arith

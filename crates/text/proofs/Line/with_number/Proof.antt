@@ -1,14 +1,13 @@
 -- `text::Line::with_number` meets its contract: each return by the facts on its way. Assumes nothing.
 use Rattle.text.proofs.Branch.{tests}
-use borrow.Author.Needs.{needs}
 use Rattle.text.proofs.Line.with_number.Statement.{statement}
 use Rattle.text.proofs.Line.with_number.Tie as tie
 
 with-digits-requires : tie.Need-with-digits-requires
-with-digits-requires c κs = search needs
+with-digits-requires c κs = tt
 
 with-requires : tie.Need-with-requires
-with-requires c κs = search needs
+with-requires c κs = tt
 
 returns : tie.Need-returns
 returns c = simp (tests, ← c .before .with-digits .ensures) (c .with .ensures)

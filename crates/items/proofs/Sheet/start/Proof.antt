@@ -1,0 +1,13 @@
+-- `items::Sheet::start` meets its contract: each return by the facts on its way. Assumes nothing.
+use Rattle.items.proofs.Branch.{tests}
+use Rattle.items.proofs.Sheet.start.Statement.{statement}
+use Rattle.items.proofs.Sheet.start.Tie as tie
+
+stop-requires : tie.Need-stop-requires
+stop-requires c κs = tt
+
+returns : tie.Need-returns
+returns c = simp (tests, c .stop .ensures)
+
+pub start-spec : {M : Type 1} → statement M
+start-spec = tie.close (tie.spec stop-requires returns)

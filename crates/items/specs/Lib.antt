@@ -1,0 +1,4 @@
+pub mod Item
+pub mod Desk
+pub mod Sheet
+pub mod Cells
