@@ -1,2 +1,2 @@
 -- The channel's laws, a file for each idea.
-pub mod Within
+pub mod Still

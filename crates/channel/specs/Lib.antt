@@ -2,5 +2,4 @@ pub mod Answer
 pub mod Channel
 pub mod Control
 pub mod Events
-pub mod Within
 pub mod Laws

@@ -154,7 +154,7 @@ fn queued(q: Queue, h: Heard) -> Queue
 }
 
 // A line bit as a number.
-pub(crate) fn cell(b: bool) -> u8
+pub fn cell(b: bool) -> u8
     ensures { λ r. ⌜ r ≡ oneIf b ⌝ }
 {
     if b { 1 } else { 0 }

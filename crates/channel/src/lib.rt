@@ -1,8 +1,8 @@
 // 01, Registers, Interrupts and external status: one channel of the chip, event by event. Any value of a channel is accepted. Assumes nothing.
 mod events;
 mod external;
-mod within;
 
+pub use crate::events::cell;
 use common::Mode;
 use common::Refusal;
 use interrupts::Sources;

@@ -1,21 +1,22 @@
 // The chip: two channels, their interrupts, and the calls of document 01 with refusals 1 to 4 and 10. Any value of a chip is accepted. Assumes nothing.
 mod sources;
 
+use crate::sources::serving;
 use channel::Answer;
 use channel::Answered;
 use channel::Channel;
 use channel::Side;
 use common::Refusal;
 use settings::Lines;
-use settings::command_in;
+use ticking::receive_a;
+use ticking::receive_b;
+use ticking::transmit_a;
+use ticking::transmit_b;
 use vector::Acked;
 ghost use mathlib.Core.Path.{_≡_};
 ghost use Rattle.common.specs.declared.Refusal.the-variants.{Channel as NoChannel};
-ghost use Rattle.channel.specs.declared.Answer.the-variants.{Done};
-ghost use Rattle.channel.specs.Channel.{answered};
-ghost use Rattle.channel.specs.Events.{transmitTick, receiveTick};
-ghost use Rattle.chip.specs.Interrupts.{inService};
-ghost use Rattle.chip.specs.Chip.{refused, inA, inB, hardReset, serviceBy, controlWriteA, controlWrite, controlReadCall, dataWriteCall};
+ghost use Rattle.chip.specs.Interrupts.{chip};
+ghost use Rattle.chip.specs.Chip.{outcome, refused, hardReset, controlWriteA, controlWrite, controlReadCall, dataWriteCall};
 ghost use Rattle.chip.specs.Chip.{dataReadCall, transmitCall, receiveCall, linesCall};
 
 pub struct Chip {
@@ -35,12 +36,27 @@ pub struct Acknowledged {
     pub chip: Chip,
 }
 
-// A transmit tick of a channel whatever its unit is. The channel is copied here, so that a tick inside a byte need not lay it out for this one.
-fn ticked(c: Channel) -> Answered
-    ensures { λ r. ⌜ r ≡ transmitTick c ⌝ }
+// A's answer, with B as it was; and B's, with A.
+fn from_a(x: Answered, b: Channel) -> Outcome
+    ensures { λ r. ⌜ r ≡ outcome (x .answer) (chip (x .channel) b) ⌝ }
 {
-    let a = c;
-    a.transmit_tick()
+    let w = x.answer;
+    let a = x.channel;
+    Outcome {
+        answer: w,
+        chip: Chip { a, b },
+    }
+}
+
+fn from_b(x: Answered, a: Channel) -> Outcome
+    ensures { λ r. ⌜ r ≡ outcome (x .answer) (chip a (x .channel)) ⌝ }
+{
+    let w = x.answer;
+    let b = x.channel;
+    Outcome {
+        answer: w,
+        chip: Chip { a, b },
+    }
 }
 
 impl Chip {
@@ -74,47 +90,15 @@ impl Chip {
         self.refused(Refusal::Channel)
     }
 
-    // A's answer, with that channel put back.
-    fn in_a(mut self, x: Answered) -> Outcome
-        ensures { λ r. ⌜ r ≡ inA self x ⌝ }
-    {
-        let w = x.answer;
-        let y = x.channel;
-        self.a = y;
-        Outcome {
-            answer: w,
-            chip: self,
-        }
-    }
-
-    fn in_b(mut self, x: Answered) -> Outcome
-        ensures { λ r. ⌜ r ≡ inB self x ⌝ }
-    {
-        let w = x.answer;
-        let y = x.channel;
-        self.b = y;
-        Outcome {
-            answer: w,
-            chip: self,
-        }
-    }
-
-    // WR0's command 7 through A.
-    fn ending(self, v: u8) -> Chip
-        ensures { λ r. ⌜ r ≡ inService self (serviceBy self v) ⌝ }
-    {
-        if (self.a.pointer == 0) & (command_in(v) == Channel::END_SERVICE) {
-            return self.reti();
-        }
-        self
-    }
-
-    // A's control write: command 7 first.
+    // A's control write: command 7 first, which ends a source in service.
     fn control_write_a(self, v: u8) -> Outcome
         ensures { λ r. ⌜ r ≡ controlWriteA self v ⌝ }
     {
-        let c = self.ending(v);
-        c.in_a(control::control_write(c.a, Side::A, v))
+        let s = self.service_by(v);
+        from_a(
+            control::control_write(serving(self.a, s.a), Side::A, v),
+            serving(self.b, s.b),
+        )
     }
 
     // Control write.
@@ -125,7 +109,7 @@ impl Chip {
             return self.control_write_a(v);
         }
         if ch == 1 {
-            return self.in_b(control::control_write(self.b, Side::B, v));
+            return from_b(control::control_write(self.b, Side::B, v), self.a);
         }
         self.no_channel()
     }
@@ -135,10 +119,10 @@ impl Chip {
         ensures { λ r. ⌜ r ≡ controlReadCall self ch ⌝ }
     {
         if ch == 0 {
-            return self.in_a(reading::control_read(self.a, self.any_pending(), 0));
+            return from_a(reading::control_read(self.a, self.any_pending(), 0), self.b);
         }
         if ch == 1 {
-            return self.in_b(reading::control_read(self.b, false, self.rr2()));
+            return from_b(reading::control_read(self.b, false, self.rr2()), self.a);
         }
         self.no_channel()
     }
@@ -148,10 +132,10 @@ impl Chip {
         ensures { λ r. ⌜ r ≡ dataWriteCall self ch v ⌝ }
     {
         if ch == 0 {
-            return self.in_a(self.a.data_write(v));
+            return from_a(self.a.data_write(v), self.b);
         }
         if ch == 1 {
-            return self.in_b(self.b.data_write(v));
+            return from_b(self.b.data_write(v), self.a);
         }
         self.no_channel()
     }
@@ -161,37 +145,12 @@ impl Chip {
         ensures { λ r. ⌜ r ≡ dataReadCall self ch ⌝ }
     {
         if ch == 0 {
-            return self.in_a(self.a.data_read());
+            return from_a(self.a.data_read(), self.b);
         }
         if ch == 1 {
-            return self.in_b(self.b.data_read());
+            return from_b(self.b.data_read(), self.a);
         }
         self.no_channel()
-    }
-
-    // A's transmit tick, and B's. Most lie inside a byte: these are done here, with no further call (bench/README.md).
-    fn transmit_a(self) -> Outcome
-        ensures { λ r. ⌜ r ≡ inA self (transmitTick (self .a)) ⌝ }
-    {
-        if self.a.within() {
-            return self.in_a(self.a.tick_within());
-        }
-        if self.a.within_block() {
-            return self.in_a(self.a.tick_block());
-        }
-        self.in_a(ticked(self.a))
-    }
-
-    fn transmit_b(self) -> Outcome
-        ensures { λ r. ⌜ r ≡ inB self (transmitTick (self .b)) ⌝ }
-    {
-        if self.b.within() {
-            return self.in_b(self.b.tick_within());
-        }
-        if self.b.within_block() {
-            return self.in_b(self.b.tick_block());
-        }
-        self.in_b(ticked(self.b))
     }
 
     // Transmit tick.
@@ -199,52 +158,12 @@ impl Chip {
         ensures { λ r. ⌜ r ≡ transmitCall self ch ⌝ }
     {
         if ch == 0 {
-            return self.transmit_a();
+            return from_a(transmit_a(self.a), self.b);
         }
         if ch == 1 {
-            return self.transmit_b();
+            return from_b(transmit_b(self.b), self.a);
         }
         self.no_channel()
-    }
-
-    // A's receive tick whatever its bit does, and B's; the channel is copied here, as with sending.
-    fn heard_a(self, bit: bool) -> Outcome
-        ensures { λ r. ⌜ r ≡ inA self (answered Done (receiveTick (self .a) bit)) ⌝ }
-    {
-        let a = self.a;
-        self.in_a(a.receive_tick(bit))
-    }
-
-    fn heard_b(self, bit: bool) -> Outcome
-        ensures { λ r. ⌜ r ≡ inB self (answered Done (receiveTick (self .b) bit)) ⌝ }
-    {
-        let b = self.b;
-        self.in_b(b.receive_tick(bit))
-    }
-
-    // A's receive tick, and B's; most lie inside a character.
-    fn receive_a(self, bit: bool) -> Outcome
-        ensures { λ r. ⌜ r ≡ inA self (answered Done (receiveTick (self .a) bit)) ⌝ }
-    {
-        if self.a.hears_block() {
-            return self.in_a(self.a.hear_block(bit));
-        }
-        if self.a.hears_within(bit) {
-            return self.in_a(self.a.hear_within(bit));
-        }
-        self.heard_a(bit)
-    }
-
-    fn receive_b(self, bit: bool) -> Outcome
-        ensures { λ r. ⌜ r ≡ inB self (answered Done (receiveTick (self .b) bit)) ⌝ }
-    {
-        if self.b.hears_block() {
-            return self.in_b(self.b.hear_block(bit));
-        }
-        if self.b.hears_within(bit) {
-            return self.in_b(self.b.hear_within(bit));
-        }
-        self.heard_b(bit)
     }
 
     // Receive tick.
@@ -258,9 +177,9 @@ impl Chip {
             return self.refused(Refusal::Level);
         }
         if ch == 0 {
-            return self.receive_a(bit == 1);
+            return from_a(receive_a(self.a, bit == 1), self.b);
         }
-        self.receive_b(bit == 1)
+        from_b(receive_b(self.b, bit == 1), self.a)
     }
 
     // Set DCD and CTS.
@@ -268,10 +187,10 @@ impl Chip {
         ensures { λ r. ⌜ r ≡ linesCall self ch dcd cts ⌝ }
     {
         if ch == 0 {
-            return self.in_a(self.a.set_lines(dcd, cts));
+            return from_a(self.a.set_lines(dcd, cts), self.b);
         }
         if ch == 1 {
-            return self.in_b(self.b.set_lines(dcd, cts));
+            return from_b(self.b.set_lines(dcd, cts), self.a);
         }
         self.no_channel()
     }

@@ -8,14 +8,17 @@ use interrupts::acknowledge;
 use interrupts::may_take;
 use reading::pending_in_both;
 use reading::special_in_both;
+use settings::command_in;
 use settings::status_affects;
 use vector::Acked;
 use vector::vector;
 ghost use mathlib.Core.Path.{_≡_};
 ghost use Rattle.channel.specs.Channel.{withService};
 ghost use Rattle.chip.specs.Interrupts.{serviceOf, inService, anyPending, rr2, acknowledge, reti};
+ghost use Rattle.chip.specs.Chip.{serviceBy};
 
-fn with_service(mut c: Channel, s: Sources) -> Channel
+// A channel with these sources in service.
+pub(crate) fn serving(mut c: Channel, s: Sources) -> Channel
     ensures { λ r. ⌜ r ≡ withService c s ⌝ }
 {
     c.service = s;
@@ -32,12 +35,23 @@ impl Chip {
         Six { a, b }
     }
 
+    // Those in service under A's control write: WR0's command 7 ends one.
+    pub(crate) fn service_by(self, v: u8) -> Six
+        ensures { λ r. ⌜ r ≡ serviceBy self v ⌝ }
+    {
+        let s = self.service();
+        if (self.a.pointer == 0) & (command_in(v) == Channel::END_SERVICE) {
+            return s.reti();
+        }
+        s
+    }
+
     // These sources are in service, and nothing else changes.
     fn in_service(mut self, s: Six) -> Chip
         ensures { λ r. ⌜ r ≡ inService self s ⌝ }
     {
-        self.a = with_service(self.a, s.a);
-        self.b = with_service(self.b, s.b);
+        self.a = serving(self.a, s.a);
+        self.b = serving(self.b, s.b);
         self
     }
 

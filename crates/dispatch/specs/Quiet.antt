@@ -2,14 +2,14 @@
 -- the proof that it is enough. Assumes nothing.
 use mathlib.Core.Path.{_≡_}
 use mathlib.Core.Bool.{Bool, true, false, not, _&&_, _||_, Bool·beq}
-use Prim.Native.Nat.{ℕ, _/_}
+use Prim.Native.Nat.{ℕ}
 use Rattle.common.specs.Tools.{void, both-left, both-right}
-use Rattle.line.specs.Bits.{odd}
 use Rattle.bytesync.specs.Syncs.{polynomialOf}
 use Rattle.bytesync.specs.Sending.{syncing}
 use Rattle.blocks.specs.Come.{sends}
 use Rattle.settings.specs.declared.Registers.{Registers}
-use Rattle.settings.specs.Settings.{store5, autoEnables, modeIn, syncsIn, sendingOf}
+use Rattle.settings.specs.Settings.{store5, autoEnables, checkIncluded, crc16Chosen, senderOn}
+use Rattle.settings.specs.Settings.{breaks, modeIn, syncsIn, sendingOf}
 use Rattle.channel.specs.declared.Channel.{Channel}
 use Rattle.channel.specs.Channel.{withRegisters}
 use Rattle.chip.specs.declared.Chip.{Chip}
@@ -25,9 +25,9 @@ use Rattle.dispatch.specs.Side.{SenderSide, side, part, sideOf}
 -- check included, polynomial, on and break stay
 abbrev pub quietWr5 : Registers → ℕ → Bool
 quietWr5 r v =
-    Bool·beq (odd v) (odd (r .wr5))
-    && (Bool·beq (odd (v / 4)) (odd (r .wr5 / 4))
-    && (Bool·beq (odd (v / 8)) (odd (r .wr5 / 8)) && Bool·beq (odd (v / 16)) (odd (r .wr5 / 16))))
+    Bool·beq (checkIncluded v) (checkIncluded (r .wr5))
+    && (Bool·beq (crc16Chosen v) (crc16Chosen (r .wr5))
+    && (Bool·beq (senderOn v) (senderOn (r .wr5)) && Bool·beq (breaks v) (breaks (r .wr5))))
 
 -- the mode stays, and both sync characters
 abbrev pub test : Test
@@ -53,17 +53,17 @@ wr5-kept : (c : Channel) (v : ℕ) → quietWr5 (c .registers) v ≡ true
 unfolding sendingOf
 wr5-kept c v q =
     let r = c .registers in
-    let a = Bool·beq (odd v) (odd (r .wr5)) in
-    let b = Bool·beq (odd (v / 4)) (odd (r .wr5 / 4)) in
-    let d = Bool·beq (odd (v / 8)) (odd (r .wr5 / 8)) in
-    let e = Bool·beq (odd (v / 16)) (odd (r .wr5 / 16)) in
+    let a = Bool·beq (checkIncluded v) (checkIncluded (r .wr5)) in
+    let b = Bool·beq (crc16Chosen v) (crc16Chosen (r .wr5)) in
+    let d = Bool·beq (senderOn v) (senderOn (r .wr5)) in
+    let e = Bool·beq (breaks v) (breaks (r .wr5)) in
     let rest = both-right a (b && (d && e)) q in
     let last = both-right b (d && e) rest in
-    let included = same-is (odd v) (odd (r .wr5)) (both-left a (b && (d && e)) q) in
-    let d2 = same-is (odd (v / 4)) (odd (r .wr5 / 4)) (both-left b (d && e) rest) in
-    let on = same-is (odd (v / 8)) (odd (r .wr5 / 8)) (both-left d e last) in
-    let broken = same-is (odd (v / 16)) (odd (r .wr5 / 16)) (both-right d e last) in
-    λ i. told c (broken i) (on i) (not (autoEnables r) || c .lines .cts) (included i) (d2 i)
+    let included = same-is (checkIncluded v) (checkIncluded (r .wr5)) (both-left a (b && (d && e)) q) in
+    let d2 = same-is (crc16Chosen v) (crc16Chosen (r .wr5)) (both-left b (d && e) rest) in
+    let on = same-is (senderOn v) (senderOn (r .wr5)) (both-left d e last) in
+    let broken = same-is (breaks v) (breaks (r .wr5)) (both-right d e last) in
+    λ i. told c (broken i) (on i) (not (autoEnables (r .wr3)) || c .lines .cts) (included i) (d2 i)
 
 keeps : Keeps (sentPart part) test
 keeps =

@@ -72,21 +72,64 @@ statusAffects wr1 = odd (wr1 / 4)
 abbrev pub receiveMode : ℕ → ℕ
 receiveMode wr1 = wr1 / 8 % 4
 
--- "WR3: D0 on, D2 address search, D4 enter hunt, D5 auto enables, D7-6 length"
+-- "WR3: D0 on, D2 address search, D4 enter hunt, D5 auto enables, D7-6 length"; 02, P3: D1 "keeps
+-- leading sync characters out of the queue", D3 lets a character into the receive check
+abbrev pub receiverOn : ℕ → Bool
+receiverOn wr3 = odd wr3
+
+abbrev pub stripsSyncs : ℕ → Bool
+stripsSyncs wr3 = odd (wr3 / 2)
+
+abbrev pub searches : ℕ → Bool
+searches wr3 = odd (wr3 / 4)
+
+abbrev pub letsIn : ℕ → Bool
+letsIn wr3 = odd (wr3 / 8)
+
 abbrev pub entersHunt : ℕ → Bool
 entersHunt wr3 = odd (wr3 / 16)
 
-abbrev pub autoEnables : Registers → Bool
-autoEnables r = odd (r .wr3 / 32)
+abbrev pub autoEnables : ℕ → Bool
+autoEnables wr3 = odd (wr3 / 32)
+
+abbrev pub heardField : ℕ → ℕ
+heardField wr3 = wr3 / 64
 
 -- "WR4: D0 parity, D1 even, D3-2 stop bits 01 one, 11 two, 00 synchronous; D5-4 10 SDLC." 02, P3,
 -- and the chip maker's manual: D5-4 00 Monosync, 01 Bisync
+abbrev pub parityOn : ℕ → Bool
+parityOn wr4 = odd wr4
+
+abbrev pub evenParity : ℕ → Bool
+evenParity wr4 = odd (wr4 / 2)
+
 abbrev pub stopField : ℕ → ℕ
 stopField wr4 = wr4 / 4 % 4
 
 abbrev pub synchronousField : ℕ → ℕ
 synchronousField wr4 = wr4 / 16 % 4
 
+abbrev pub factorField : ℕ → ℕ
+factorField wr4 = wr4 / 64
+
+-- "WR5: D0 Tx check included, D3 on, D4 break, D6-5 length." 02, P3: "WR5 D2 = 1 chooses
+-- x^16+x^15+x^2+1"
+abbrev pub checkIncluded : ℕ → Bool
+checkIncluded wr5 = odd wr5
+
+abbrev pub crc16Chosen : ℕ → Bool
+crc16Chosen wr5 = odd (wr5 / 4)
+
+abbrev pub senderOn : ℕ → Bool
+senderOn wr5 = odd (wr5 / 8)
+
+abbrev pub breaks : ℕ → Bool
+breaks wr5 = odd (wr5 / 16)
+
+abbrev pub sentField : ℕ → ℕ
+sentField wr5 = wr5 / 32 % 4
+
+-- the mode that this WR4 chooses
 unfoldable pub modeOf : ℕ → Mode
 modeOf wr4 =
     if eqb (stopField wr4) 0
@@ -107,16 +150,15 @@ modeIn r = r .mode
 -- keep it"
 unfoldable pub notBuilt : ℕ → Bool
 notBuilt wr4 =
-    not (eqb (wr4 / 64) 0)
+    not (eqb (factorField wr4) 0)
     || (eqb (stopField wr4) 2 || (eqb (stopField wr4) 0 && eqb (synchronousField wr4) 3))
 
--- 02, P3: "Monosync sends WR6 and matches WR7; Bisync uses WR6 then WR7 for both"; "WR5 D2 = 1
--- chooses x^16+x^15+x^2+1"
+-- 02, P3: "Monosync sends WR6 and matches WR7; Bisync uses WR6 then WR7 for both"
 abbrev pub syncsIn : Registers → Syncs
 syncsIn r = syncs (eqb (synchronousField (r .wr4)) 1) (r .wr6) (r .wr7)
 
 abbrev pub polynomialIn : Registers → ℕ
-polynomialIn r = polynomialOf (odd (r .wr5 / 4))
+polynomialIn r = polynomialOf (crc16Chosen (r .wr5))
 
 -- "Lengths: 00 five, 01 seven, 10 six, 11 eight."
 unfoldable pub lengthOf : ℕ → ℕ
@@ -129,19 +171,15 @@ stopsOf wr4 = if eqb (stopField wr4) 3 then 2 else 1
 -- a character's length, by its two bits, and its parity
 abbrev pub formatOf : Registers → ℕ → Format
 formatOf r field =
-    record { length = lengthOf field; parity = odd (r .wr4); even = odd (r .wr4 / 2) }
+    record { length = lengthOf field; parity = parityOn (r .wr4); even = evenParity (r .wr4) }
 
 -- 01, Sending: "On means WR5 D3 and, with auto enables, CTS."
 abbrev pub sends : Registers → Lines → Bool
-sends r l = odd (r .wr5 / 8) && (not (autoEnables r) || l .cts)
+sends r l = senderOn (r .wr5) && (not (autoEnables (r .wr3)) || l .cts)
 
--- "WR5: .. D4 break"
-abbrev pub breaks : ℕ → Bool
-breaks wr5 = odd (wr5 / 16)
-
--- "WR5: D0 Tx check included, D3 on, D4 break, D6-5 length."
+-- what the sender is told, SDLC's part of it by itself
 abbrev pub framingOf : Registers → Lines → Framing
-framingOf r l = record { on = sends r l; included = odd (r .wr5) }
+framingOf r l = record { on = sends r l; included = checkIncluded (r .wr5) }
 
 unfoldable pub sendingOf : Registers → Lines → Sending
 sendingOf r l = record {
@@ -150,19 +188,18 @@ sendingOf r l = record {
   framing = framingOf r l;
   typing = record {
     on = sends r l;
-    format = formatOf r (r .wr5 / 32 % 4);
+    format = formatOf r (sentField (r .wr5));
     stops = stopsOf (r .wr4);
   };
-  syncing = syncing (sends r l) (odd (r .wr5)) (polynomialIn r) (syncsIn r);
+  syncing = syncing (sends r l) (checkIncluded (r .wr5)) (polynomialIn r) (syncsIn r);
 }
 
--- 01, Receiving: "On means WR3 D0 and, with auto enables, DCD." "WR6: address." 02, P3: "WR3 D1
--- keeps leading sync characters out of the queue"; a character enters the check "if WR3 D3 is set"
+-- 01, Receiving: "On means WR3 D0 and, with auto enables, DCD." "WR6: address."
 unfoldable pub receivingOf : Registers → Lines → Receiving
 receivingOf r l = record {
   mode = modeIn r;
-  on = odd (r .wr3) && (not (autoEnables r) || l .dcd);
-  addressing = record { search = odd (r .wr3 / 4); address = r .wr6 };
-  format = formatOf r (r .wr3 / 64);
-  matching = matching (syncsIn r) (odd (r .wr3 / 2)) (odd (r .wr3 / 8)) (polynomialIn r);
+  on = receiverOn (r .wr3) && (not (autoEnables (r .wr3)) || l .dcd);
+  addressing = record { search = searches (r .wr3); address = r .wr6 };
+  format = formatOf r (heardField (r .wr3));
+  matching = matching (syncsIn r) (stripsSyncs (r .wr3)) (letsIn (r .wr3)) (polynomialIn r);
 }

@@ -12,8 +12,9 @@ use sdlc::Framing;
 use sender::Sending;
 ghost use mathlib.Core.Path.{_≡_};
 ghost use Rattle.settings.specs.Settings.{pointerIn, commandIn, presetIn, externalOn, transmitOn, statusAffects, receiveMode, entersHunt, breaks};
+ghost use Rattle.settings.specs.Settings.{autoEnables, stopField, synchronousField, checkIncluded};
 ghost use Rattle.settings.specs.Settings.{modeOf, modeIn, store4, syncsIn, polynomialIn, notBuilt};
-ghost use Rattle.settings.specs.Settings.{lengthOf, stopsOf, autoEnables, formatOf, sends, framingOf, sendingOf, receivingOf};
+ghost use Rattle.settings.specs.Settings.{lengthOf, stopsOf, formatOf, sends, framingOf, sendingOf, receivingOf};
 
 // WR1 to WR7 as they were written; WR2 in channel B alone. The mode is what the last WR4 chose, none since a reset.
 pub struct Registers {
@@ -96,15 +97,44 @@ pub fn breaks(wr5: u8) -> bool
     wr5 / 16 % 2 == 1
 }
 
+// WR3's auto enables: on takes the line with it.
+fn auto_enables(wr3: u8) -> bool
+    ensures { λ r. ⌜ r ≡ autoEnables wr3 ⌝ }
+{
+    wr3 / 32 % 2 == 1
+}
+
+// WR4's D3-2: stop bits.
+fn stop_field(wr4: u8) -> u8
+    ensures { λ r. ⌜ r ≡ stopField wr4 ⌝ }
+{
+    wr4 / 4 % 4
+}
+
+// WR4's D5-4: which synchronous mode.
+fn synchronous_field(wr4: u8) -> u8
+    ensures { λ r. ⌜ r ≡ synchronousField wr4 ⌝ }
+{
+    wr4 / 16 % 4
+}
+
+// WR5's D0.
+fn check_included(wr5: u8) -> bool
+    ensures { λ r. ⌜ r ≡ checkIncluded wr5 ⌝ }
+{
+    wr5 % 2 == 1
+}
+
 // The mode that this WR4 chooses.
 pub fn mode_of(wr4: u8) -> Mode
     ensures { λ r. ⌜ r ≡ modeOf wr4 ⌝ }
 {
-    if wr4 / 4 % 4 == 0 {
-        if wr4 / 16 % 4 == 2 {
+    if stop_field(wr4) == 0 {
+        let kind = synchronous_field(wr4);
+        if kind == 2 {
             return Mode::Sdlc;
         }
-        if wr4 / 16 % 4 == 1 {
+        if kind == 1 {
             return Mode::Bisync;
         }
         return Mode::Monosync;
@@ -116,8 +146,8 @@ pub fn mode_of(wr4: u8) -> Mode
 pub fn not_built(wr4: u8) -> bool
     ensures { λ r. ⌜ r ≡ notBuilt wr4 ⌝ }
 {
-    let stops = wr4 / 4 % 4;
-    (wr4 / 64 != 0) | ((stops == 2) | ((stops == 0) & (wr4 / 16 % 4 == 3)))
+    let stops = stop_field(wr4);
+    (wr4 / 64 != 0) | ((stops == 2) | ((stops == 0) & (synchronous_field(wr4) == 3)))
 }
 
 // The number of bits that a length's two bits name.
@@ -136,7 +166,7 @@ fn length_of(field: u8) -> u8
 fn stops_of(wr4: u8) -> u8
     ensures { λ r. ⌜ r ≡ stopsOf wr4 ⌝ }
 {
-    if wr4 / 4 % 4 == 3 { 2 } else { 1 }
+    if stop_field(wr4) == 3 { 2 } else { 1 }
 }
 
 impl Registers {
@@ -169,7 +199,7 @@ impl Registers {
         ensures { λ r. ⌜ r ≡ syncsIn self ⌝ }
     {
         Syncs {
-            both: self.wr4 / 16 % 4 == 1,
+            both: synchronous_field(self.wr4) == 1,
             first: self.wr6,
             second: self.wr7,
         }
@@ -180,13 +210,6 @@ impl Registers {
         ensures { λ r. ⌜ r ≡ polynomialIn self ⌝ }
     {
         polynomial_of(self.wr5 / 4 % 2 == 1)
-    }
-
-    // On takes the line with it.
-    fn auto_enables(self) -> bool
-        ensures { λ r. ⌜ r ≡ autoEnables self ⌝ }
-    {
-        self.wr3 / 32 % 2 == 1
     }
 
     // A character's length and parity, the length by its two bits.
@@ -204,7 +227,7 @@ impl Registers {
     fn sends(self, l: Lines) -> bool
         ensures { λ r. ⌜ r ≡ sends self l ⌝ }
     {
-        (self.wr5 / 8 % 2 == 1) & (!self.auto_enables() | l.cts)
+        (self.wr5 / 8 % 2 == 1) & (!auto_enables(self.wr3) | l.cts)
     }
 
     // What SDLC's sender is told.
@@ -213,7 +236,7 @@ impl Registers {
     {
         Framing {
             on: self.sends(l),
-            included: self.wr5 % 2 == 1,
+            included: check_included(self.wr5),
         }
     }
 
@@ -224,7 +247,7 @@ impl Registers {
         let on = self.sends(l);
         Sending {
             mode: self.mode(),
-            broken: self.wr5 / 16 % 2 == 1,
+            broken: breaks(self.wr5),
             framing: self.framing(l),
             typing: Typing {
                 on,
@@ -233,7 +256,7 @@ impl Registers {
             },
             syncing: Syncing {
                 on,
-                included: self.wr5 % 2 == 1,
+                included: check_included(self.wr5),
                 polynomial: self.polynomial(),
                 syncs: self.syncs(),
             },
@@ -246,7 +269,7 @@ impl Registers {
     {
         Receiving {
             mode: self.mode(),
-            on: (self.wr3 % 2 == 1) & (!self.auto_enables() | l.dcd),
+            on: (self.wr3 % 2 == 1) & (!auto_enables(self.wr3) | l.dcd),
             addressing: Addressing {
                 search: self.wr3 / 4 % 2 == 1,
                 address: self.wr6,

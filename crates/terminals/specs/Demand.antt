@@ -7,7 +7,6 @@ use Prim.Native.Nat.{ℕ, _/_, _%_, _<_}
 use native.Mathlib.Omega.{arith}
 use borrow.Author.Tests.{ne-eqb}
 use Rattle.common.specs.Mode.{inBlocks}
-use Rattle.line.specs.Bits.{odd}
 use Rattle.shared.specs.Preset.{zeros}
 use Rattle.queue.specs.Laws.{three-empty}
 use Rattle.bytesync.specs.declared.Reception.{Reception}
@@ -17,7 +16,7 @@ use Rattle.blocks.specs.Check.{withCheck}
 use Rattle.blocks.specs.Heard.{Final, hearAll, before, entriesOf}
 use Rattle.blocks.specs.Characters.{blockGiven, Feeds}
 use Rattle.blocks.specs.Laws.Brought.{block-fed, flipped-fed}
-use Rattle.settings.specs.Settings.{receivingOf}
+use Rattle.settings.specs.Settings.{crc16Chosen, receivingOf}
 use Rattle.chip.specs.declared.Chip.{Chip}
 use Rattle.chip.specs.Event.{Event}
 use Rattle.stories.specs.Story.{Which, chan, after}
@@ -42,11 +41,11 @@ with-one false = refl
 
 polynomial-small : (w : Which) (c : Chip) → polynomialAt w c < 65536
 unfolding receivingOf
-polynomial-small w c = small (odd (chan w c .registers .wr5 / 4))
+polynomial-small w c = small (crc16Chosen (chan w c .registers .wr5))
 
 polynomial-one : (w : Which) (c : Chip) → polynomialAt w c % 2 ≡ 1
 unfolding receivingOf
-polynomial-one w c = with-one (odd (chan w c .registers .wr5 / 4))
+polynomial-one w c = with-one (crc16Chosen (chan w c .registers .wr5))
 
 -- a story, from hunt begun with the check preset
 module _ (w : Which) (c : Chip) (st : List Event) (l : Listening (sideOf w c))

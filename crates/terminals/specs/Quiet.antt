@@ -3,16 +3,15 @@
 -- as the host likes. Assumes nothing.
 use mathlib.Core.Path.{_≡_, ap, _∙_}
 use mathlib.Core.Bool.{Bool, true, false, not, _&&_, _||_, Bool·beq}
-use Prim.Native.Nat.{ℕ, _/_}
+use Prim.Native.Nat.{ℕ}
 use Rattle.common.specs.Choice.{if_then_else_}
 use Rattle.common.specs.Mode.{synchronous}
 use Rattle.common.specs.Tools.{void, both-left, both-right, not-true}
-use Rattle.line.specs.Bits.{odd}
 use Rattle.bytesync.specs.Syncs.{polynomialOf}
 use Rattle.receiver.specs.Receiver.{enterHunt}
 use Rattle.settings.specs.declared.Registers.{Registers}
-use Rattle.settings.specs.Settings.{store3, store5, entersHunt, autoEnables, modeIn, syncsIn}
-use Rattle.settings.specs.Settings.{receivingOf}
+use Rattle.settings.specs.Settings.{store3, store5, receiverOn, stripsSyncs, entersHunt}
+use Rattle.settings.specs.Settings.{autoEnables, crc16Chosen, modeIn, syncsIn, receivingOf}
 use Rattle.channel.specs.declared.Channel.{Channel}
 use Rattle.channel.specs.Channel.{withRegisters, withReceiver}
 use Rattle.channel.specs.Control.{setWr3}
@@ -30,12 +29,13 @@ use Rattle.terminals.specs.Side.{Side, side, part, sideIn, sideOf}
 abbrev pub quietWr3 : Registers → ℕ → Bool
 quietWr3 r v =
     not (entersHunt v)
-    && (Bool·beq (odd v) (odd (r .wr3))
-    && (Bool·beq (odd (v / 2)) (odd (r .wr3 / 2)) && Bool·beq (odd (v / 32)) (autoEnables r)))
+    && (Bool·beq (receiverOn v) (receiverOn (r .wr3))
+    && (Bool·beq (stripsSyncs v) (stripsSyncs (r .wr3))
+    && Bool·beq (autoEnables v) (autoEnables (r .wr3))))
 
 -- the polynomial stays
 abbrev pub quietWr5 : Registers → ℕ → Bool
-quietWr5 r v = Bool·beq (odd (v / 4)) (odd (r .wr5 / 4))
+quietWr5 r v = Bool·beq (crc16Chosen v) (crc16Chosen (r .wr5))
 
 abbrev pub test : Test
 test = heardTest quietWr3 quietWr5 (λ r v. false)
@@ -76,24 +76,25 @@ unfolding receivingOf
 wr3-kept c v q =
     let r = c .registers in
     let a = not (entersHunt v) in
-    let b = Bool·beq (odd v) (odd (r .wr3)) in
-    let d = Bool·beq (odd (v / 2)) (odd (r .wr3 / 2)) in
-    let e = Bool·beq (odd (v / 32)) (autoEnables r) in
+    let b = Bool·beq (receiverOn v) (receiverOn (r .wr3)) in
+    let d = Bool·beq (stripsSyncs v) (stripsSyncs (r .wr3)) in
+    let e = Bool·beq (autoEnables v) (autoEnables (r .wr3)) in
     let rest = both-right a (b && (d && e)) q in
     let last = both-right b (d && e) rest in
-    let on = same-is (odd v) (odd (r .wr3)) (both-left b (d && e) rest) in
-    let strip = same-is (odd (v / 2)) (odd (r .wr3 / 2)) (both-left d e last) in
-    let auto = same-is (odd (v / 32)) (autoEnables r) (both-right d e last) in
+    let on = same-is (receiverOn v) (receiverOn (r .wr3)) (both-left b (d && e) rest) in
+    let strip = same-is (stripsSyncs v) (stripsSyncs (r .wr3)) (both-left d e last) in
+    let auto = same-is (autoEnables v) (autoEnables (r .wr3)) (both-right d e last) in
     ap sideIn (wr3-written c v (not-true (entersHunt v) (both-left a (b && (d && e)) q)))
-    ∙ (λ i. told c (on i) (strip i) (not (auto i) || c .lines .dcd) (odd (r .wr5 / 4)))
+    ∙ (λ i. told c (on i) (strip i) (not (auto i) || c .lines .dcd) (crc16Chosen (r .wr5)))
 
 wr5-kept : (c : Channel) (v : ℕ) → quietWr5 (c .registers) v ≡ true
     → KeptSide c (withRegisters c (store5 (c .registers) v))
 unfolding receivingOf
 wr5-kept c v q =
     let r = c .registers in
-    ap (told c (odd (r .wr3)) (odd (r .wr3 / 2)) (not (autoEnables r) || c .lines .dcd))
-    (same-is (odd (v / 4)) (odd (r .wr5 / 4)) q)
+    ap (told c (receiverOn (r .wr3)) (stripsSyncs (r .wr3))
+    (not (autoEnables (r .wr3)) || c .lines .dcd))
+    (same-is (crc16Chosen v) (crc16Chosen (r .wr5)) q)
 
 keeps : Keeps (heardPart part) test
 keeps = heard-keeps part quietWr3 quietWr5 (λ r v. false) wr3-kept wr5-kept (λ c v q. void q)

@@ -50,7 +50,7 @@ use Rattle.feed.specs.Laws.Feeding.{if-true, if-false}
 use Rattle.drive.specs.Drive.{controlA, lookA, writeA, tickA, bitA, sendAbort, channelReset}
 use Rattle.drive.specs.Drive.{presetCheck, clearLatch, sdlcMode, onEightBits, canSend}
 use Rattle.drive.specs.Drive.{betweenFrames, standsStill, setUp, freed, prepared}
-use Rattle.channel.specs.Laws.Within.{in-sdlc}
+use Rattle.channel.specs.Laws.Still.{in-sdlc}
 
 -- Ticks of a channel that can send
 

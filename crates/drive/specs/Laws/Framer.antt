@@ -27,7 +27,7 @@ use Rattle.channel.specs.declared.Channel.{Channel}
 use Rattle.status.specs.Status.{noticed}
 use Rattle.channel.specs.Channel.{withSender, withStatus, withTransmit, liveOf, settled}
 use Rattle.channel.specs.Events.{transmitTick}
-use Rattle.channel.specs.Laws.Within.{noticed-same}
+use Rattle.channel.specs.Laws.Still.{noticed-same}
 use Rattle.chip.specs.declared.Chip.{Chip}
 use Rattle.chip.specs.Interrupts.{chip}
 use Rattle.chip.specs.Chip.{dataWriteCall, transmitCall}

@@ -4,10 +4,9 @@ use mathlib.Core.Bool.{true, false, not, _&&_}
 use Prim.Native.Nat.{ℕ, _+_, _-_, _*_, _/_, _%_, _^_}
 use Rattle.common.specs.Choice.{if_then_else_}
 use lib.Dec.{eqb}
-use Rattle.line.specs.Bits.{odd}
 use Rattle.shapes.specs.Shapes.{shapeBits}
 use Rattle.asynchronous.specs.Hearing.{noAssembly}
-use Rattle.settings.specs.Settings.{store3, store4, autoEnables}
+use Rattle.settings.specs.Settings.{store3, store4, autoEnables, heardField, parityOn, evenParity}
 use Rattle.tales.specs.Tale.{Happens, telling}
 use Rattle.tales.specs.Kind.{isQueued, isDeaf, isBit}
 use Rattle.tales.specs.Parts.{withAssembly, withParity, withBroken, withEntries, withHeardBits}
@@ -24,7 +23,7 @@ shaped v = let n = 2 ^ shapeBits v in 256 - n + v % n
 abbrev unusedBitsRead0 : Happens
 unusedBitsRead0 =
     butA (λ was e is.
-    if isQueued 0 was e is && eqb (is .registers .wr3 / 64) 0
+    if isQueued 0 was e is && eqb (heardField (is .registers .wr3)) 0
     then withEntries is (λ x. record {
       byte = x .byte % 64;
       parity = x .parity;
@@ -55,7 +54,7 @@ shapesInTheReceiver-refused t = other-list (t .no-shape) refl
 -- A takes odd parity for even, and even for odd
 abbrev hearsParityTheOtherWay : Happens
 hearsParityTheOtherWay =
-    takingA (λ r. store4 r (if odd (r .wr4 / 2) then r .wr4 - 2 else r .wr4 + 2))
+    takingA (λ r. store4 r (if evenParity (r .wr4) then r .wr4 - 2 else r .wr4 + 2))
 
 pub hearsParityTheOtherWay-refused : Told hearsParityTheOtherWay → ⊥
 unfolding telling
@@ -86,7 +85,7 @@ abbrev parityIsJudgedAtTheStop : Happens
 parityIsJudgedAtTheStop =
     firstA (λ a e.
     if isBit 0 e && eqb (a .receiver .assembly .left) 1
-    then withParity a (odd (a .registers .wr4)) (odd (a .registers .wr4 / 2))
+    then withParity a (parityOn (a .registers .wr4)) (evenParity (a .registers .wr4))
     else a)
 
 pub parityIsJudgedAtTheStop-refused : Told parityIsJudgedAtTheStop → ⊥
@@ -147,7 +146,7 @@ receiverIgnoresAutoEnables-refused t = other-number (t .no-dcd) refl
 abbrev hearsByDcdAlone : Happens
 hearsByDcdAlone c e =
     takingA (λ r.
-    if autoEnables r && c .a .lines .dcd
+    if autoEnables (r .wr3) && c .a .lines .dcd
     then store3 r (r .wr3 / 2 * 2 + 1)
     else r) c e
 

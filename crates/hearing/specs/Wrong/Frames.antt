@@ -1,11 +1,11 @@
 -- Wrong chips that do not tell the tales of Frames: SDLC receiving. Assumes nothing.
 use mathlib.Core.Path.{refl}
 use mathlib.Core.Bool.{Bool, true, false, not, _&&_}
-use Prim.Native.Nat.{ℕ, _/_}
+use Prim.Native.Nat.{ℕ}
 use Rattle.common.specs.Choice.{if_then_else_}
 use lib.Dec.{eqb}
-use Rattle.line.specs.Bits.{odd}
 use Rattle.sdlc.specs.Hearing.{content, noChars}
+use Rattle.settings.specs.Settings.{searches}
 use Rattle.chip.specs.Event.{Event}
 use Rattle.tales.specs.Tale.{Happens, telling}
 use Rattle.tales.specs.Kind.{isDeaf, valueOf, isBit, isWrite}
@@ -72,7 +72,7 @@ doesNotTellAnAbort-refused t = other-number (t .abort) refl
 abbrev addressOfAllIsNone : Happens
 addressOfAllIsNone =
     butA (λ was e is.
-    if isBit 0 e && (odd (is .registers .wr3 / 4) && (not (was .receiver .content .chars .have)
+    if isBit 0 e && (searches (is .registers .wr3) && (not (was .receiver .content .chars .have)
     && eqb (is .receiver .content .chars .held) 0xFF))
     then withSkip is true
     else is)

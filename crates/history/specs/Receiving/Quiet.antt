@@ -3,18 +3,18 @@
 -- say. Assumes nothing.
 use mathlib.Core.Path.{_≡_, refl, ap, _∙_}
 use mathlib.Core.Bool.{Bool, true, false, not, _&&_, _||_, Bool·beq}
-use Prim.Native.Nat.{ℕ, _/_}
+use Prim.Native.Nat.{ℕ}
 use lib.Dec.{eqb}
 use Rattle.common.specs.Tools.{by-test, if-elim, void, both-left, both-right}
-use Rattle.line.specs.Bits.{odd}
 use Rattle.queue.specs.declared.Queue.{Queue}
 use Rattle.bytesync.specs.Hearing.{matching}
 use Rattle.receiver.specs.declared.Receiver.{Receiver}
 use Rattle.receiver.specs.declared.Receiving.{Receiving}
 use Rattle.settings.specs.declared.Registers.{Registers}
 use Rattle.settings.specs.declared.Lines.{Lines}
-use Rattle.settings.specs.Settings.{store5, store7, commandIn, presetIn, autoEnables}
-use Rattle.settings.specs.Settings.{modeIn, syncsIn, polynomialIn, formatOf, receivingOf}
+use Rattle.settings.specs.Settings.{store5, store7, commandIn, presetIn, receiverOn, stripsSyncs}
+use Rattle.settings.specs.Settings.{searches, letsIn, autoEnables, heardField, modeIn, syncsIn}
+use Rattle.settings.specs.Settings.{polynomialIn, formatOf, receivingOf}
 use Rattle.channel.specs.declared.Side as channel
 use Rattle.channel.specs.declared.Side.the-variants as channels
 use Rattle.channel.specs.declared.Channel.{Channel}
@@ -38,7 +38,7 @@ quietWr0 v = not (eqb (commandIn v) 3) && (not (eqb (commandIn v) 6) && not (eqb
 
 -- with auto enables DCD has to stay as it is
 abbrev pub quietDcd : Channel → Bool → Bool
-quietDcd c dcd = not (autoEnables (c .registers)) || Bool·beq dcd (c .lines .dcd)
+quietDcd c dcd = not (autoEnables (c .registers .wr3)) || Bool·beq dcd (c .lines .dcd)
 
 -- all but receive ticks and data reads, and what writes its receiver or queue or sets it anew: WR4
 -- and WR6 do; of WR3, WR5 and WR7 each mode says what leaves its side alone
@@ -120,16 +120,17 @@ transmit-kept g c = refl
 
 -- the receiver is told the same
 dcd-kept : (r : Registers) (l m : Lines)
-    → not (autoEnables r) || Bool·beq (m .dcd) (l .dcd) ≡ true → receivingOf r m ≡ receivingOf r l
+    → not (autoEnables (r .wr3)) || Bool·beq (m .dcd) (l .dcd) ≡ true
+    → receivingOf r m ≡ receivingOf r l
 unfolding receivingOf
 dcd-kept r l m q =
     ap (λ (b : Bool). record {
       mode = modeIn r;
-      on = odd (r .wr3) && b;
-      addressing = record { search = odd (r .wr3 / 4); address = r .wr6 };
-      format = formatOf r (r .wr3 / 64);
-      matching = matching (syncsIn r) (odd (r .wr3 / 2)) (odd (r .wr3 / 8)) (polynomialIn r);
-    }) (still-on (autoEnables r) (m .dcd) (l .dcd) q)
+      on = receiverOn (r .wr3) && b;
+      addressing = record { search = searches (r .wr3); address = r .wr6 };
+      format = formatOf r (heardField (r .wr3));
+      matching = matching (syncsIn r) (stripsSyncs (r .wr3)) (letsIn (r .wr3)) (polynomialIn r);
+    }) (still-on (autoEnables (r .wr3)) (m .dcd) (l .dcd) q)
 
 lines-kept : {X : Type 0} (g : Receiving → Receiver → Queue → X) (c : Channel) (d t : Bool)
     → quietDcd c d ≡ true → KeptIn (heardPart g) c (linesSet c d t)

@@ -2,12 +2,11 @@
 -- it is enough, for every part that the sender and what it is told say. Assumes nothing.
 use mathlib.Core.Path.{_≡_, refl, sym, ap, _∙_}
 use mathlib.Core.Bool.{Bool, true, false, not, _&&_, _||_, Bool·beq}
-use Prim.Native.Nat.{ℕ, _/_, _%_}
+use Prim.Native.Nat.{ℕ}
 use lib.Dec.{eqb}
 use Rattle.common.specs.Tools.{if-elim, by-test, void, both-left, both-right}
 use Rattle.common.specs.Mode.{synchronous, sameMode, mode-same}
 use Rattle.common.specs.declared.Mode.{Mode}
-use Rattle.line.specs.Bits.{odd}
 use Rattle.sdlc.specs.Sending.{framing}
 use Rattle.queue.specs.Queue.{waits}
 use Rattle.bytesync.specs.Sending.{syncing}
@@ -17,8 +16,9 @@ use Rattle.sender.specs.Sender.{framerOf}
 use Rattle.settings.specs.declared.Registers.{Registers}
 use Rattle.settings.specs.declared.Lines.{Lines}
 use Rattle.settings.specs.Settings.{store3, store4, store5, store6, store7, commandIn, presetIn}
-use Rattle.settings.specs.Settings.{entersHunt, autoEnables, modeOf, modeIn, notBuilt, sends}
-use Rattle.settings.specs.Settings.{breaks, formatOf, stopsOf, polynomialIn, syncsIn, sendingOf}
+use Rattle.settings.specs.Settings.{entersHunt, autoEnables, checkIncluded, senderOn, breaks}
+use Rattle.settings.specs.Settings.{sentField, modeOf, modeIn, notBuilt, sends, formatOf, stopsOf}
+use Rattle.settings.specs.Settings.{polynomialIn, syncsIn, sendingOf}
 use Rattle.channel.specs.declared.Side.{Side}
 use Rattle.channel.specs.declared.Side.the-variants as channels
 use Rattle.channel.specs.declared.Channel.{Channel}
@@ -45,17 +45,17 @@ quietWr0 v =
 
 -- auto enables stay
 abbrev pub quietAuto : Registers → ℕ → Bool
-quietAuto r v = Bool·beq (odd (v / 32)) (autoEnables r)
+quietAuto r v = Bool·beq (autoEnables v) (autoEnables (r .wr3))
 
 -- check included, on and break stay
 abbrev pub quietWr5 : Registers → ℕ → Bool
 quietWr5 r v =
-    Bool·beq (odd v) (odd (r .wr5))
-    && (Bool·beq (odd (v / 8)) (odd (r .wr5 / 8)) && Bool·beq (odd (v / 16)) (odd (r .wr5 / 16)))
+    Bool·beq (checkIncluded v) (checkIncluded (r .wr5))
+    && (Bool·beq (senderOn v) (senderOn (r .wr5)) && Bool·beq (breaks v) (breaks (r .wr5)))
 
 -- CTS counts with auto enables alone
 abbrev pub quietCts : Channel → Bool → Bool
-quietCts c cts = not (autoEnables (c .registers)) || Bool·beq cts (c .lines .cts)
+quietCts c cts = not (autoEnables (c .registers .wr3)) || Bool·beq cts (c .lines .cts)
 
 -- all but transmit ticks and data writes, and what writes its sender or sets it anew; of WR4 to WR7
 -- each mode says what leaves its side alone
@@ -146,24 +146,25 @@ wr2-kept g c channels.B v = refl
 -- what the sender is told; `enabled` is what auto enables leave of CTS
 abbrev tells : Registers → Bool → Sending
 tells r enabled =
-    let on = odd (r .wr5 / 8) && enabled in
+    let on = senderOn (r .wr5) && enabled in
     record {
       mode = modeIn r;
       broken = breaks (r .wr5);
-      framing = framing on (odd (r .wr5));
+      framing = framing on (checkIncluded (r .wr5));
       typing = record {
         on = on;
-        format = formatOf r (r .wr5 / 32 % 4);
+        format = formatOf r (sentField (r .wr5));
         stops = stopsOf (r .wr4);
       };
-      syncing = syncing on (odd (r .wr5)) (polynomialIn r) (syncsIn r);
+      syncing = syncing on (checkIncluded (r .wr5)) (polynomialIn r) (syncsIn r);
     }
 
 auto-kept : (r : Registers) (l : Lines) (v : ℕ) → quietAuto r v ≡ true
     → sendingOf (store3 r v) l ≡ sendingOf r l
 unfolding sendingOf
 auto-kept r l v q =
-    ap (λ (t : Bool). tells r (not t || l .cts)) (same-is (odd (v / 32)) (autoEnables r) q)
+    ap (λ (t : Bool). tells r (not t || l .cts))
+    (same-is (autoEnables v) (autoEnables (r .wr3)) q)
 
 wr3-kept : {X : Type 0} (g : Sending → Sender → X) (c : Channel) (v : ℕ)
     → quietAuto (c .registers) v ≡ true → KeptIn (sentPart g) c (setWr3 c v)
@@ -172,9 +173,10 @@ wr3-kept g c v q =
     if-elim (KeptIn (sentPart g) c) (entersHunt v && synchronous (modeIn (c .registers))) k k
 
 cts-kept : (r : Registers) (l m : Lines)
-    → not (autoEnables r) || Bool·beq (m .cts) (l .cts) ≡ true → sendingOf r m ≡ sendingOf r l
+    → not (autoEnables (r .wr3)) || Bool·beq (m .cts) (l .cts) ≡ true
+    → sendingOf r m ≡ sendingOf r l
 unfolding sendingOf
-cts-kept r l m q = ap (tells r) (still-on (autoEnables r) (m .cts) (l .cts) q)
+cts-kept r l m q = ap (tells r) (still-on (autoEnables (r .wr3)) (m .cts) (l .cts) q)
 
 lines-kept : {X : Type 0} (g : Sending → Sender → X) (c : Channel) (dcd cts : Bool)
     → quietCts c cts ≡ true → KeptIn (sentPart g) c (linesSet c dcd cts)
@@ -226,7 +228,7 @@ wr4-keeps : (r : Registers) (l : Lines) (v : ℕ) → modeOf v ≡ modeIn r
     → heeded (sendingOf (store4 r v) l) ≡ heeded (sendingOf r l)
 unfolding sendingOf
 wr4-keeps r l v e =
-    ap (λ (m : Mode). heeds m (odd (r .wr5 / 16)) (sends r l) (odd (r .wr5))) e
+    ap (λ (m : Mode). heeds m (breaks (r .wr5)) (sends r l) (checkIncluded (r .wr5))) e
 
 wr4-kept : (c : Channel) (v : ℕ) → notBuilt v ≡ false
     → quietWr4 (c .registers) v ≡ true → KeptSide c (setWr4 c v)
@@ -242,15 +244,15 @@ wr5-kept : (c : Channel) (v : ℕ) → quietWr5 (c .registers) v ≡ true
 unfolding sendingOf
 wr5-kept c v q =
     let r = c .registers in
-    let a = Bool·beq (odd v) (odd (r .wr5)) in
-    let b = Bool·beq (odd (v / 8)) (odd (r .wr5 / 8)) in
-    let d = Bool·beq (odd (v / 16)) (odd (r .wr5 / 16)) in
+    let a = Bool·beq (checkIncluded v) (checkIncluded (r .wr5)) in
+    let b = Bool·beq (senderOn v) (senderOn (r .wr5)) in
+    let d = Bool·beq (breaks v) (breaks (r .wr5)) in
     let rest = both-right a (b && d) q in
-    let included = same-is (odd v) (odd (r .wr5)) (both-left a (b && d) q) in
-    let on = same-is (odd (v / 8)) (odd (r .wr5 / 8)) (both-left b d rest) in
-    let broken = same-is (odd (v / 16)) (odd (r .wr5 / 16)) (both-right b d rest) in
-    λ j. sameSender c (heeds (modeIn r) (broken j) (on j && (not (autoEnables r) || c .lines .cts))
-    (included j))
+    let included = same-is (checkIncluded v) (checkIncluded (r .wr5)) (both-left a (b && d) q) in
+    let on = same-is (senderOn v) (senderOn (r .wr5)) (both-left b d rest) in
+    let broken = same-is (breaks v) (breaks (r .wr5)) (both-right b d rest) in
+    λ j. sameSender c (heeds (modeIn r) (broken j)
+    (on j && (not (autoEnables (r .wr3)) || c .lines .cts)) (included j))
 
 wr6-kept : (c : Channel) (v : ℕ) → KeptSide c (withRegisters c (store6 (c .registers) v))
 unfolding sendingOf

@@ -1,15 +1,15 @@
 -- Wrong chips that do not tell the tales of Receiving: Monosync, heard. Assumes nothing.
 use mathlib.Core.Path.{refl}
 use mathlib.Core.Bool.{true, false, not, _&&_}
-use Prim.Native.Nat.{_-_, _%_, _/_}
+use Prim.Native.Nat.{_-_, _%_}
 use lib.Dec.{eqb}
 use Rattle.common.specs.Choice.{if_then_else_}
 use Rattle.common.specs.Mode.{inBlocks}
-use Rattle.line.specs.Bits.{odd, lowBits}
+use Rattle.line.specs.Bits.{lowBits}
 use Rattle.line.specs.Check.{ones, checkOver}
 use Rattle.queue.specs.Queue.{waits}
 use Rattle.bytesync.specs.Hearing.{block, noBlock, reception}
-use Rattle.settings.specs.Settings.{modeIn, polynomialIn, store7}
+use Rattle.settings.specs.Settings.{entersHunt, crc16Chosen, modeIn, polynomialIn, store7}
 use Rattle.channel.specs.declared.Answer.the-variants.{Gave}
 use Rattle.channel.specs.Answer.{answerValue}
 use Rattle.channel.specs.Channel.{withRegisters}
@@ -24,7 +24,7 @@ use Rattle.laundry.specs.Receiving.{Told}
 abbrev hearsOverTheOtherPolynomial : Happens
 hearsOverTheOtherPolynomial =
     firstA (λ a e.
-    if isBit 0 e && odd (a .registers .wr5 / 4)
+    if isBit 0 e && crc16Chosen (a .registers .wr5)
     then withWr5 a (a .registers .wr5 - 4)
     else a)
 
@@ -101,7 +101,7 @@ abbrev huntsOverEarlierBits : Happens
 huntsOverEarlierBits =
     butA (λ was e is.
     let r = was .receiver .reception in
-    if isWrite 0 3 was e && odd (valueOf e / 16)
+    if isWrite 0 3 was e && entersHunt (valueOf e)
     then withReception is (reception true (r .bits) (r .count) (noBlock false))
     else is)
 

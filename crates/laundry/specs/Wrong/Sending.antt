@@ -1,11 +1,11 @@
 -- Wrong chips that do not tell the tales of Sending: Monosync, sent. Assumes nothing.
 use mathlib.Core.Path.{refl}
 use mathlib.Core.Bool.{false, _&&_}
-use Prim.Native.Nat.{_-_, _/_}
+use Prim.Native.Nat.{_-_}
 use Rattle.common.specs.Choice.{if_then_else_}
-use Rattle.line.specs.Bits.{odd, lowBits}
+use Rattle.line.specs.Bits.{lowBits}
 use Rattle.line.specs.Check.{ones, checkOver}
-use Rattle.settings.specs.Settings.{polynomialIn}
+use Rattle.settings.specs.Settings.{crc16Chosen, polynomialIn}
 use Rattle.tales.specs.Tale.{Happens, telling}
 use Rattle.tales.specs.Kind.{isTick, isPreset}
 use Rattle.tales.specs.Parts.{withWr5, withWr6, withLatch, withSentCheck}
@@ -26,7 +26,7 @@ sendsWr7InMonosync-refused t = other-list (t .sync) refl
 abbrev sendsOverTheOtherPolynomial : Happens
 sendsOverTheOtherPolynomial =
     firstA (λ a e.
-    if isTick 0 e && odd (a .registers .wr5 / 4)
+    if isTick 0 e && crc16Chosen (a .registers .wr5)
     then withWr5 a (a .registers .wr5 - 4)
     else a)
 

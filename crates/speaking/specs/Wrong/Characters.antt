@@ -4,9 +4,8 @@ use mathlib.Core.Bool.{true, not, _&&_}
 use Prim.Native.Nat.{_+_, _-_, _*_, _/_, _%_}
 use Rattle.common.specs.Choice.{if_then_else_}
 use lib.Dec.{eqb}
-use Rattle.line.specs.Bits.{odd}
 use Rattle.asynchronous.specs.Sending.{noCharacter}
-use Rattle.settings.specs.Settings.{store4, store5, stopField, autoEnables}
+use Rattle.settings.specs.Settings.{store4, store5, stopField, autoEnables, senderOn, breaks}
 use Rattle.channel.specs.Events.{dataWritten}
 use Rattle.chip.specs.Interrupts.{chip}
 use Rattle.chip.specs.Event.{Transmit, step}
@@ -42,7 +41,7 @@ sendsOneStopForTwo-refused t = other-number (t .two-stops) refl
 abbrev offDropsACharacter : Happens
 offDropsACharacter =
     butA (λ was e is.
-    if isWrite 0 5 was e && not (odd (valueOf e / 8))
+    if isWrite 0 5 was e && not (senderOn (valueOf e))
     then withCharacter is noCharacter
     else is)
 
@@ -77,7 +76,7 @@ abbrev breakHoldsTheSteps : Happens
 breakHoldsTheSteps =
     butA (λ was e is.
     let under = not (eqb (was .sender .character .left) 0) in
-    if isTick 0 e && (odd (is .registers .wr5 / 16) && under)
+    if isTick 0 e && (breaks (is .registers .wr5) && under)
     then withCharacter is (was .sender .character)
     else is)
 
@@ -89,7 +88,7 @@ breakHoldsTheSteps-refused t = other-list (t .break-goes-on) refl
 abbrev sendsByCtsAlone : Happens
 sendsByCtsAlone c e =
     takingA (λ r.
-    if autoEnables r && c .a .lines .cts
+    if autoEnables (r .wr3) && c .a .lines .cts
     then store5 r (r .wr5 % 8 + 8 + r .wr5 / 16 * 16)
     else r) c e
 

@@ -1,7 +1,7 @@
 -- Wrong chips that do not tell the tales of Frames: SDLC sending. Assumes nothing.
 use mathlib.Core.Path.{refl}
 use mathlib.Core.Bool.{true, false, not, _&&_}
-use Prim.Native.Nat.{_+_, _-_, _/_, _%_}
+use Prim.Native.Nat.{_+_, _-_, _/_}
 use Rattle.common.specs.Choice.{if_then_else_}
 use lib.Dec.{eqb}
 use Rattle.common.specs.Mode.{inSdlc}
@@ -10,7 +10,7 @@ use Rattle.line.specs.Check.{sdlc, checkOver}
 use Rattle.shapes.specs.Sent.{bitsSent, sentBits}
 use Rattle.sdlc.specs.declared.LineUnit.the-variants.{Mark, Flag, Byte}
 use Rattle.sdlc.specs.Sending.{insertion, aborting, checking, noBitLeft}
-use Rattle.settings.specs.Settings.{sends, modeIn}
+use Rattle.settings.specs.Settings.{checkIncluded, senderOn, sentField, sends, modeIn}
 use Rattle.channel.specs.declared.Answer.the-variants.{Gave}
 use Rattle.channel.specs.Channel.{withStatus}
 use Rattle.channel.specs.Answer.{answerValue}
@@ -27,9 +27,9 @@ shapesInSdlc =
     butA (λ was e is.
     let k = was .sender .shared in
     let r = is .registers in
-    if isLoad 0 was e is && (inSdlc (modeIn r) && eqb (r .wr5 / 32 % 4) 0)
+    if isLoad 0 was e is && (inSdlc (modeIn r) && eqb (sentField (r .wr5)) 0)
     then withUnit
-    (if odd (r .wr5)
+    (if checkIncluded (r .wr5)
     then withSentCheck is (checkOver sdlc (k .check) (sentBits 5 (k .buffer)))
     else is)
     (Byte (bitsSent 5 (k .buffer) - 1) (k .buffer / 2))
@@ -87,7 +87,7 @@ sendsAByteBehindTheCheck-refused t = other-list (t .flag-behind-check) refl
 abbrev offCutsAUnitShort : Happens
 offCutsAUnitShort =
     butA (λ was e is.
-    if isWrite 0 5 was e && not (odd (valueOf e / 8))
+    if isWrite 0 5 was e && not (senderOn (valueOf e))
     then withUnit is Mark
     else is)
 

@@ -7,7 +7,7 @@ use Rattle.receiver.specs.Receiver.{hear}
 use Rattle.channel.specs.declared.Answer.the-variants.{Done}
 use Rattle.channel.specs.Channel.{answered, settled}
 use Rattle.channel.specs.Events.{heardBy, receiveTick}
-use Rattle.channel.specs.Laws.Within.{still-heard}
+use Rattle.channel.specs.Laws.Still.{still-heard}
 use Rattle.channel.proofs.Channel.receive_tick.Statement.{statement}
 use Rattle.channel.proofs.Channel.receive_tick.Tie as tie
 

@@ -7,7 +7,7 @@ use Rattle.sender.specs.Sender.{tickInSdlc}
 use Rattle.sender.specs.Laws.Tick.{tick-sdlc}
 use Rattle.settings.specs.Settings.{sendingOf}
 use Rattle.channel.proofs.Branch.{tests}
-use Rattle.channel.specs.Laws.Within.{in-sdlc}
+use Rattle.channel.specs.Laws.Still.{in-sdlc}
 use Rattle.channel.proofs.Channel.ticked.Statement.{statement}
 use Rattle.channel.proofs.Channel.ticked.Tie as tie
 

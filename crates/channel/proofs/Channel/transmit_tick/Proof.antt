@@ -6,7 +6,7 @@ use Rattle.channel.specs.declared.Answer.the-variants.{Gave}
 use Rattle.channel.specs.declared.Channel.{Channel}
 use Rattle.channel.specs.Channel.{answered}
 use Rattle.channel.specs.Events.{transmitted, transmitTick}
-use Rattle.channel.specs.Laws.Within.{still-ticked}
+use Rattle.channel.specs.Laws.Still.{still-ticked}
 use Rattle.channel.proofs.Channel.transmit_tick.Statement.{statement}
 use Rattle.channel.proofs.Channel.transmit_tick.Tie as tie
 

@@ -14,12 +14,12 @@ returns c = simp (tests, c .before .if1 .taken) (c .control-write-a .ensures)
 control-write-requires : tie.Need-control-write-requires
 control-write-requires c κs = tt
 
-in-b-requires : tie.Need-in-b-requires
-in-b-requires c κs = tt
+from-b-requires : tie.Need-from-b-requires
+from-b-requires c κs = tt
 
 returns-2 : tie.Need-returns-2
 unfolding controlWrite
-returns-2 c = simp (tests, c .before .before .if2 .taken, c .before .before .before .if1 .left, ← c .before .control-write .ensures) (c .in-b .ensures)
+returns-2 c = simp (tests, c .before .before .if2 .taken, c .before .before .before .if1 .left, ← c .before .control-write .ensures) (c .from-b .ensures)
 
 no-channel-requires : tie.Need-no-channel-requires
 no-channel-requires c κs = tt
@@ -35,7 +35,7 @@ control-write-spec =
     control-write-a-requires
     returns
     control-write-requires
-    in-b-requires
+    from-b-requires
     returns-2
     no-channel-requires
     returns-3)

@@ -1,3 +1,4 @@
+-- `chip::Chip::data_write` meets its contract: each return by the facts on its way. Assumes nothing.
 use Rattle.chip.proofs.Branch.{tests}
 use Rattle.chip.specs.Chip.{dataWriteCall}
 use Rattle.chip.proofs.Chip.data_write.Statement.{statement}
@@ -6,22 +7,22 @@ use Rattle.chip.proofs.Chip.data_write.Tie as tie
 data-write-requires : tie.Need-data-write-requires
 data-write-requires c κs = tt
 
-in-a-requires : tie.Need-in-a-requires
-in-a-requires c κs = tt
+from-a-requires : tie.Need-from-a-requires
+from-a-requires c κs = tt
 
 returns : tie.Need-returns
 unfolding dataWriteCall
-returns c = simp (tests, c .in-a .ensures, c .before .before .if1 .taken, c .before .data-write .ensures)
+returns c = simp (tests, c .from-a .ensures, c .before .before .if1 .taken, c .before .data-write .ensures)
 
 data-write-requires-2 : tie.Need-data-write-requires-2
 data-write-requires-2 c κs = tt
 
-in-b-requires : tie.Need-in-b-requires
-in-b-requires c κs = tt
+from-b-requires : tie.Need-from-b-requires
+from-b-requires c κs = tt
 
 returns-2 : tie.Need-returns-2
 unfolding dataWriteCall
-returns-2 c = simp (tests, c .in-b .ensures, c .before .before .if2 .taken, c .before .before .before .if1 .left, c .before .data-write2 .ensures)
+returns-2 c = simp (tests, c .from-b .ensures, c .before .before .if2 .taken, c .before .before .before .if1 .left, c .before .data-write2 .ensures)
 
 no-channel-requires : tie.Need-no-channel-requires
 no-channel-requires c κs = tt
@@ -35,10 +36,10 @@ data-write-spec =
     tie.close
     (tie.spec
     data-write-requires
-    in-a-requires
+    from-a-requires
     returns
     data-write-requires-2
-    in-b-requires
+    from-b-requires
     returns-2
     no-channel-requires
     returns-3)

@@ -1,3 +1,4 @@
+-- `chip::Chip::receive` meets its contract: each return by the facts on its way. Assumes nothing.
 use mathlib.Core.Path.{sym, _∙_}
 use Rattle.chip.proofs.Channels.{not-a, not-b, then-b, alike}
 use Rattle.chip.proofs.Branch.{tests}
@@ -24,16 +25,24 @@ returns-2 c =
 receive-a-requires : tie.Need-receive-a-requires
 receive-a-requires c κs = tt
 
+from-a-requires : tie.Need-from-a-requires
+from-a-requires c κs = tt
+
 returns-3 : tie.Need-returns-3
 unfolding receiveCall
-returns-3 c = simp (tests, c .before .if3 .taken, c .before .before .if2 .left, c .before .before .before .if1 .left) (c .receive-a .ensures)
+returns-3 c = simp (tests, c .from-a .ensures, c .before .before .if3 .taken, c .before .before .before .if2 .left, c .before .before .before .before .if1 .left, c .before .receive-a .ensures)
 
 receive-b-requires : tie.Need-receive-b-requires
 receive-b-requires c κs = tt
 
+from-b-requires : tie.Need-from-b-requires
+from-b-requires c κs = tt
+
 returns-4 : tie.Need-returns-4
 unfolding receiveCall
-returns-4 c = simp (tests, c .before .if3 .left, then-b (c .before .before .before .if1 .left) (c .before .if3 .left), c .before .before .if2 .left) (c .receive-b .ensures)
+returns-4 c =
+    let b = c .before .before in
+    simp (tests, c .from-b .ensures, b .if3 .left, then-b (b .before .before .if1 .left) (b .if3 .left), b .before .if2 .left, c .before .receive-b .ensures)
 
 pub receive-spec : {M : Type 1} → statement M
 receive-spec =
@@ -44,6 +53,8 @@ receive-spec =
     refused-requires
     returns-2
     receive-a-requires
+    from-a-requires
     returns-3
     receive-b-requires
+    from-b-requires
     returns-4)

@@ -1,3 +1,4 @@
+-- `chip::Chip::reset` meets its contract: each return by the facts on its way. Assumes nothing.
 use Rattle.chip.proofs.Branch.{tests}
 use Rattle.chip.proofs.Chip.reset.Statement.{statement}
 use Rattle.chip.proofs.Chip.reset.Tie as tie

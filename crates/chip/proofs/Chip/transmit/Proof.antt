@@ -7,16 +7,22 @@ use Rattle.chip.proofs.Chip.transmit.Tie as tie
 transmit-a-requires : tie.Need-transmit-a-requires
 transmit-a-requires c κs = tt
 
+from-a-requires : tie.Need-from-a-requires
+from-a-requires c κs = tt
+
 returns : tie.Need-returns
 unfolding transmitCall
-returns c = simp (tests, c .before .if1 .taken) (c .transmit-a .ensures)
+returns c = simp (tests, c .before .before .if1 .taken, ← c .before .transmit-a .ensures) (c .from-a .ensures)
 
 transmit-b-requires : tie.Need-transmit-b-requires
 transmit-b-requires c κs = tt
 
+from-b-requires : tie.Need-from-b-requires
+from-b-requires c κs = tt
+
 returns-2 : tie.Need-returns-2
 unfolding transmitCall
-returns-2 c = simp (tests, c .before .if2 .taken, c .before .before .if1 .left) (c .transmit-b .ensures)
+returns-2 c = simp (tests, c .before .before .if2 .taken, c .before .before .before .if1 .left, ← c .before .transmit-b .ensures) (c .from-b .ensures)
 
 no-channel-requires : tie.Need-no-channel-requires
 no-channel-requires c κs = tt
@@ -26,4 +32,14 @@ unfolding transmitCall
 returns-3 c = simp (tests, c .before .if2 .left, c .before .before .if1 .left) (c .no-channel .ensures)
 
 pub transmit-spec : {M : Type 1} → statement M
-transmit-spec = tie.close (tie.spec transmit-a-requires returns transmit-b-requires returns-2 no-channel-requires returns-3)
+transmit-spec =
+    tie.close
+    (tie.spec
+    transmit-a-requires
+    from-a-requires
+    returns
+    transmit-b-requires
+    from-b-requires
+    returns-2
+    no-channel-requires
+    returns-3)

@@ -6,8 +6,11 @@ use Rattle.settings.proofs.Registers.framing.Tie as tie
 sends-requires : tie.Need-sends-requires
 sends-requires c κs = tt
 
+check-included-requires : tie.Need-check-included-requires
+check-included-requires c κs = tt
+
 returns : tie.Need-returns
-returns c = simp (tests, ← c .before .sends .ensures)
+returns c = simp (tests, c .check-included .ensures, ← c .before .sends .ensures)
 
 pub framing-spec : {M : Type 1} → statement M
-framing-spec = tie.close (tie.spec sends-requires returns)
+framing-spec = tie.close (tie.spec sends-requires check-included-requires returns)

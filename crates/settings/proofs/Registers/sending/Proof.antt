@@ -10,6 +10,9 @@ sends-requires c κs = tt
 mode-requires : tie.Need-mode-requires
 mode-requires c κs = tt
 
+breaks-requires : tie.Need-breaks-requires
+breaks-requires c κs = tt
+
 framing-requires : tie.Need-framing-requires
 framing-requires c κs = tt
 
@@ -19,6 +22,9 @@ format-requires c κs = tt
 stops-of-requires : tie.Need-stops-of-requires
 stops-of-requires c κs = tt
 
+check-included-requires : tie.Need-check-included-requires
+check-included-requires c κs = tt
+
 polynomial-requires : tie.Need-polynomial-requires
 polynomial-requires c κs = tt
 
@@ -27,7 +33,7 @@ syncs-requires c κs = tt
 
 returns : tie.Need-returns
 unfolding sendingOf
-returns c = simp (tests, c .syncs .ensures, c .before .polynomial .ensures, c .before .before .before .stops-of .ensures, c .before .before .before .before .format .ensures, c .before .before .before .before .before .before .framing .ensures, c .before .before .before .before .before .before .before .before .mode .ensures, c .before .before .before .before .before .before .before .before .before .sends .ensures)
+returns c = simp (tests, c .syncs .ensures, c .before .polynomial .ensures, c .before .before .check-included .ensures, c .before .before .before .stops-of .ensures, c .before .before .before .before .format .ensures, c .before .before .before .before .before .before .framing .ensures, c .before .before .before .before .before .before .before .breaks .ensures, c .before .before .before .before .before .before .before .before .mode .ensures, c .before .before .before .before .before .before .before .before .before .sends .ensures)
 
 pub sending-spec : {M : Type 1} → statement M
 sending-spec =
@@ -35,9 +41,11 @@ sending-spec =
     (tie.spec
     sends-requires
     mode-requires
+    breaks-requires
     framing-requires
     format-requires
     stops-of-requires
+    check-included-requires
     polynomial-requires
     syncs-requires
     returns)
