@@ -17,8 +17,8 @@ abbrev received : ℕ → ℕ → List Event
 received ch wr1 = hearing ch oneStop ++ set ch 1 wr1 ++ char41 ch
 
 -- a start bit has been sent, in A; in a channel, its transmit interrupt on
-abbrev begun : List Event
-begun = writes 0 0 ++ ticks 0 1
+abbrev loads : List Event
+loads = writes 0 0 ++ ticks 0 1
 
 abbrev sent : ℕ → ℕ → List Event
 sent ch wr1 = sending ch oneStop ++ set ch 1 wr1 ++ writes ch 0 ++ ticks ch 1
@@ -54,7 +54,7 @@ pub record Told (happens : Happens) : Type 0 where
   pub no-rr2-in-a : reads happens vectors 0 2 ≡ 0
   -- "Priority: A receive, transmit, external, then B."
   pub receive-first :
-      vector happens (vectors ++ received 0 0b11010 ++ set 0 5 sendEight ++ begun) ≡ 0xFD
+      vector happens (vectors ++ received 0 0b11010 ++ set 0 5 sendEight ++ loads) ≡ 0xFD
   pub transmit-next : vector happens (vectors ++ sent 0 0b11 ++ (SetLines 0 1 0 ∷ [])) ≡ 0xF9
   pub a-before-b : vector happens (vectors ++ carrier 0 0b1 ++ received 1 0b11100) ≡ 0xFB
   -- "RR2 that of the highest pending": in service or not

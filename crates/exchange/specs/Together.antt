@@ -21,8 +21,7 @@ use Rattle.stories.specs.Sent.{lineOf, ticks}
 use Rattle.stories.specs.Received.{bitsOf}
 use Rattle.terminals.specs.Side.{momentsOf}
 use Rattle.terminals.specs.Side as receiving
-use Rattle.terminals.specs.Conserved.{Fed}
-use Rattle.terminals.specs.Statement.{Listening, matchingOf, polynomialAt, Received}
+use Rattle.terminals.specs.Statement.{Listening, Fed, matchingOf, polynomialAt, Received}
 use Rattle.terminals.specs.Demand.{block-received}
 use Rattle.dispatch.specs.Side.{syncingOf}
 use Rattle.dispatch.specs.Statement.{syncsOf, Start, InTime, blockTicks}

@@ -5,13 +5,8 @@ use Prim.Native.Nat.{ℕ}
 use Rattle.chip.specs.Event.{Event}
 use Rattle.tales.specs.Tale.{Happens, telling, digits, reads, line}
 use Rattle.tales.specs.Words.{command, hears, writes, takes, ticks, sendAbort, presetSent}
-use Rattle.tales.specs.Words.{clearUnderrun}
-use Rattle.tales.specs.Words.{sdlc, hearing, framing, flag, ones}
+use Rattle.tales.specs.Words.{clearUnderrun, sdlc, hearing, framing, byteWaits, flag, ones}
 use Rattle.hosting.specs.Happens.{happens}
-
--- A in SDLC, its check preset by the reset, the latch cleared, this byte in its buffer
-abbrev holding : ℕ → List Event
-holding v = framing 0 ++ writes 0 v
 
 -- WR0: the next frame's check and latch
 abbrev anew : List Event
@@ -20,11 +15,11 @@ anew = command 0 presetSent ++ command 0 clearUnderrun
 -- F8 owes a zero behind its last bit, so it lasts nine ticks: 55 comes behind the eighth tick after
 -- its load
 abbrev ninth : List Event
-ninth = holding 0xF8 ++ ticks 0 17 ++ writes 0 0x55
+ninth = byteWaits 0xF8 ++ ticks 0 17 ++ writes 0 0x55
 
 -- Send Abort amid the byte 00; then 55, behind a preset and a clear
 abbrev behindAbort : List Event
-behindAbort = holding 0 ++ ticks 0 12 ++ command 0 sendAbort ++ anew ++ writes 0 0x55
+behindAbort = byteWaits 0 ++ ticks 0 12 ++ command 0 sendAbort ++ anew ++ writes 0 0x55
 
 -- A hears seven bytes of a frame and is not read; then an abort and a flag
 abbrev overflown : List Event
@@ -32,7 +27,7 @@ overflown = hearing 0 sdlc ++ flag 0 ++ hears 0 56 0 ++ ones 0 8 ++ flag 0
 
 -- the frame of 00 is out, and the next note's byte waits
 abbrev nextNote : List Event
-nextNote = holding 0 ++ ticks 0 40 ++ anew ++ writes 0 0
+nextNote = byteWaits 0 ++ ticks 0 40 ++ anew ++ writes 0 0
 
 pub record Told (happens : Happens) : Type 0 where
   -- "After mark or abort: flag"
@@ -46,7 +41,7 @@ pub record Told (happens : Happens) : Type 0 where
   pub oldest-no-end : reads happens overflown 0 1 ≡ 0x01
   pub newest-no-end : reads happens (overflown ++ takes 0 2) 0 1 ≡ 0x21
   -- "one 0 is owed and sent next, even before the flag": the frame of 88 ends so
-  pub zero-before-flag : line happens (holding 0x88 ++ ticks 0 32) 0 9 ≡ digits 9 0b001111110
+  pub zero-before-flag : line happens (byteWaits 0x88 ++ ticks 0 32) 0 9 ≡ digits 9 0b001111110
   -- "a closing flag opens the next frame"
   pub one-flag : line happens nextNote 0 32 ≡ digits 32 0b00000000000111100000111101111110
 

@@ -29,8 +29,8 @@ abbrev viaCharacters : List Event
 viaCharacters = toAsynchronous ++ toSdlc
 
 -- a character's start bit is out, a transmit interrupt being on
-abbrev begun : List Event
-begun = sending 0 oneStop ++ set 0 1 0b10 ++ writes 0 0 ++ ticks 0 1
+abbrev underWay : List Event
+underWay = sending 0 oneStop ++ set 0 1 0b10 ++ writes 0 0 ++ ticks 0 1
 
 -- two characters have come and one is read, the interrupt for first characters on
 abbrev firstRead : List Event
@@ -42,12 +42,12 @@ wrongParity = hearing 0 oddParity ++ hears 0 11 0b01000001001
 
 pub record Told (happens : Happens) : Type 0 where
   -- "An accepted WR4 that changes the mode": the same mode again, with other parity, cuts nothing
-  pub same-mode : reads happens (begun ++ set 0 4 oneStop) 0 1 ≡ 0x00
-  pub same-but-parity : reads happens (begun ++ set 0 4 oddParity) 0 1 ≡ 0x00
+  pub same-mode : reads happens (underWay ++ set 0 4 oneStop) 0 1 ≡ 0x00
+  pub same-but-parity : reads happens (underWay ++ set 0 4 oddParity) 0 1 ≡ 0x00
   -- a refused one changes nothing, "the register pointer included": the byte behind it is WR4 again
   pub pointer-stays : reads happens (set 0 4 0xFF ++ command 0 sdlc) 0 0 ≡ 0x54
   -- "idles the sender as after a mark": no character is under way; no zero is owed, a flag begins
-  pub idled : reads happens (begun ++ viaSdlc) 0 1 ≡ 0x01
+  pub idled : reads happens (underWay ++ viaSdlc) 0 1 ≡ 0x01
   pub nothing-owed :
       line happens (framing 0 ++ writes 0 0xF8 ++ ticks 0 16 ++ viaCharacters) 0 2
       ≡ 0 ∷ 1 ∷ []
@@ -76,7 +76,7 @@ pub record Told (happens : Happens) : Type 0 where
       line happens (framing 0 ++ writes 0 0 ++ ticks 0 16 ++ viaCharacters ++ writes 0 0) 0 32
       ≡ digits 32 0b01111110000000001110001011110000
   pub still-disarmed : reads happens (firstRead ++ toSdlc) 0 0 ≡ 0x55
-  pub transmit-kept : reads happens (begun ++ toSdlc) 0 0 ≡ 0x56
+  pub transmit-kept : reads happens (underWay ++ toSdlc) 0 0 ≡ 0x56
   pub latches-kept : reads happens (wrongParity ++ toSdlc) 0 1 ≡ 0x11
   -- "With no mode, ticks send 1, break or not, and receive nothing."
   pub sends-ones : line happens (set 0 5 0b01111001 ++ writes 0 0) 0 2 ≡ 1 ∷ 1 ∷ []

@@ -32,8 +32,8 @@ abbrev checked : List Event
 checked = framing 0 ++ writes 0 0 ++ ticks 0 16
 
 -- DCD has asked, and was taken
-abbrev taken : ℕ → List Event
-taken ch = set ch 1 0b1 ++ (SetLines ch 1 0 ∷ Acknowledge ∷ [])
+abbrev served : ℕ → List Event
+served ch = set ch 1 0b1 ++ (SetLines ch 1 0 ∷ Acknowledge ∷ [])
 
 pub record Told (happens : Happens) : Type 0 where
   -- "zeroes the WRs": no external interrupt, receiver off, sender off, address 0, vector 0
@@ -69,8 +69,8 @@ pub record Told (happens : Happens) : Type 0 where
       reads happens (sending 0 oneStop ++ set 0 1 0b10 ++ writes 0 0 ++ ticks 0 1 ++ reset) 0 0
       ≡ 0x44
   pub service-ended :
-      refusal happens (taken 0 ++ reset ++ set 0 1 0b1 ++ (SetLines 0 0 0 ∷ [])) Acknowledge ≡ 0
-  pub service-of-b : refusal happens (taken 1 ++ reset) Acknowledge ≡ 4
+      refusal happens (served 0 ++ reset ++ set 0 1 0b1 ++ (SetLines 0 0 0 ∷ [])) Acknowledge ≡ 0
+  pub service-of-b : refusal happens (served 1 ++ reset) Acknowledge ≡ 4
   -- "unlatches external status", and latches nothing itself; the lines are as they were
   pub unlatched : reads happens ((SetLines 0 1 1 ∷ []) ++ reset ++ set 0 1 0b1) 0 0 ≡ 0x6C
   pub nothing-latched :

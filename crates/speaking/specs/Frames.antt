@@ -6,13 +6,10 @@ use Prim.Native.Nat.{ℕ}
 use Rattle.chip.specs.Event.{Event}
 use Rattle.tales.specs.Tale.{Happens, telling, digits, reads, line}
 use Rattle.tales.specs.Words.{command, set, writes, ticks, sendAbort, resetStatus, presetSent}
-use Rattle.tales.specs.Words.{clearUnderrun, sdlc, sendEight, sendChecked, framing}
+use Rattle.tales.specs.Words.{clearUnderrun, sdlc, sendEight, sendChecked, framing, byteWaits}
 use Rattle.speaking.specs.Happens.{happens}
 
--- A in SDLC with the latch cleared and this byte in its buffer; the check is not included
-abbrev holding : ℕ → List Event
-holding v = framing 0 ++ writes 0 v
-
+-- A in SDLC with the latch cleared; the check is not included
 abbrev unchecked : List Event
 unchecked = set 0 4 sdlc ++ set 0 5 sendEight ++ command 0 clearUnderrun
 
@@ -22,10 +19,10 @@ five = set 0 5 0b00001000
 
 -- the byte 00 has been sent to its last bit, and four bits of its check
 abbrev sent : List Event
-sent = holding 0 ++ ticks 0 16
+sent = byteWaits 0 ++ ticks 0 16
 
 abbrev checking : List Event
-checking = holding 0 ++ ticks 0 20
+checking = byteWaits 0 ++ ticks 0 20
 
 -- the twelve bits of that check that are left, and the flag behind them
 abbrev checkRest : List ℕ
@@ -45,11 +42,11 @@ pub record Told (happens : Happens) : Type 0 where
   -- marked examples 1 to 3: "mark (1 tick), flag, byte (low bit first), check (16)", the zero
   -- that is owed "sent next, even before the flag"
   pub byte-00 :
-      line happens (holding 0x00) 0 40 ≡ digits 40 0b0111111000000000000111100000111101111110
+      line happens (byteWaits 0x00) 0 40 ≡ digits 40 0b0111111000000000000111100000111101111110
   pub byte-ff :
-      line happens (holding 0xFF) 0 42 ≡ digits 42 0b011111101111101110000000011111011101111110
+      line happens (byteWaits 0xFF) 0 42 ≡ digits 42 0b011111101111101110000000011111011101111110
   pub byte-88 :
-      line happens (holding 0x88) 0 41 ≡ digits 41 0b01111110000100010001110000011111001111110
+      line happens (byteWaits 0x88) 0 41 ≡ digits 41 0b01111110000100010001110000011111001111110
   -- "In SDLC all characters have eight bits .. no matter what WR3, WR4, WR5 and WR7 hold."; 02, P1:
   -- "the true rule for asynchronous sending": F0, 1111000D, is eight bits here
   pub no-shape :
@@ -57,9 +54,9 @@ pub record Told (happens : Happens) : Type 0 where
   -- "After five ones in a row in byte and check bits, counted on from the opening flag": over two
   -- bytes, and from a byte into its check
   pub over-bytes :
-      line happens (holding 0xE0 ++ ticks 0 9 ++ writes 0 0x03) 0 16 ≡ digits 16 0b0000111110000000
+      line happens (byteWaits 0xE0 ++ ticks 0 9 ++ writes 0 0x03) 0 16 ≡ digits 16 0b0000111110000000
   pub into-check :
-      line happens (holding 0xF0) 0 41 ≡ digits 41 0b01111110000011111011011111011000000111111
+      line happens (byteWaits 0xF0) 0 41 ≡ digits 41 0b01111110000011111011011111011000000111111
   -- "After byte: .. if the latch is clear and WR5 D0 set, check, otherwise flag; either sets the
   -- latch"
   pub no-check :
@@ -87,13 +84,13 @@ pub record Told (happens : Happens) : Type 0 where
   -- "Break sends 0 in place of each bit while the steps go on.": the ones of FF are counted
   pub broken-flag : line happens (framing 0 ++ broken) 0 3 ≡ 0 ∷ 0 ∷ 0 ∷ []
   pub counted-on :
-      line happens (holding 0xFF ++ broken ++ ticks 0 13 ++ set 0 5 sendChecked) 0 2 ≡ 0 ∷ 1 ∷ []
+      line happens (byteWaits 0xFF ++ broken ++ ticks 0 13 ++ set 0 5 sendChecked) 0 2 ≡ 0 ∷ 1 ∷ []
   -- "Send Abort (SDLC, on, no abort under way; else nothing)": "A unit is under way until the next
   -- one's first bit"
   pub aborted : line happens (sent ++ command 0 sendAbort) 0 16 ≡ digits 16 0b1111111101111110
   -- and drops the byte in the buffer: RR0 D2
   pub buffer-dropped :
-      reads happens (holding 0 ++ ticks 0 9 ++ writes 0 0 ++ command 0 sendAbort) 0 0 ≡ 0x54
+      reads happens (byteWaits 0 ++ ticks 0 9 ++ writes 0 0 ++ command 0 sendAbort) 0 0 ≡ 0x54
   pub abort-once :
       line happens (sent ++ command 0 sendAbort ++ ticks 0 8 ++ command 0 sendAbort) 0 8 ≡ flagBits
   pub no-abort-off :

@@ -95,6 +95,10 @@ sending ch wr4 = set ch 4 wr4 ++ set ch 5 sendEight
 abbrev pub framing : ℕ → List Event
 framing ch = set ch 4 sdlc ++ set ch 5 sendChecked ++ command ch clearUnderrun
 
+-- and in A with this byte in the buffer
+abbrev pub byteWaits : ℕ → List Event
+byteWaits v = framing 0 ++ writes 0 v
+
 -- on the line: 41 hex in eight bits with its start and stop, the same with a stop of 0, and a break
 abbrev pub char41 : ℕ → List Event
 char41 ch = hears ch 10 0b0100000101

@@ -20,19 +20,10 @@ use Rattle.stories.specs.Received.{ToReceiver, isRead, taking, tookOf}
 use Rattle.terminals.specs.Side.{Heeded, Side, side, sideOf, checkingOf, momentIn}
 use Rattle.terminals.specs.Side.{momentsOf}
 use Rattle.history.specs.Receiving.Events.{queuedIf, roomIf, queue-takes}
-use Rattle.history.specs.Receiving.Stories.{HearsWhere, over, hears, reads, still}
+use Rattle.history.specs.Receiving.Stories.{over, hears, reads, still}
 use Rattle.terminals.specs.Events.{matchedBy, heardSide, readSide, Follows}
 use Rattle.terminals.specs.Events.{Hearing, follows}
-
--- "stays on .. read before a fourth character waits and else untouched but for WR3 D3": a tick that
--- hands a character over finds room, reads come as they like, and what else happens leaves the side
--- as it was
-
-abbrev pub roomy : Side → Bool → Bool → Bool
-roomy x i b = roomIf (matchedBy i b x .some) (x .queue)
-
-abbrev pub Fed : Which → Chip → List Event → Type 0
-Fed w c st = HearsWhere (sideOf w) (λ d b. roomy (sideOf w d) (checkingOf w d) b ≡ true) w c st
+use Rattle.terminals.specs.Statement.{roomy, Fed}
 
 before-join : (xs ys : List Entry) (f : Final) → before xs (before ys f) ≡ before (xs ++ ys) f
 before-join xs ys f =

@@ -24,8 +24,8 @@ use Rattle.stories.specs.Received.{tookOf, bytesOf}
 use Rattle.history.specs.Receiving.Events.{bytes-append, values-are}
 use Rattle.terminals.specs.Side.{Side, sideOf, momentsOf}
 use Rattle.terminals.specs.Events.{moments-bits}
-use Rattle.terminals.specs.Conserved.{Fed, Conserved, conserved}
-use Rattle.terminals.specs.Statement.{Listening, matchingOf, syncsOf, polynomialAt}
+use Rattle.terminals.specs.Conserved.{Conserved, conserved}
+use Rattle.terminals.specs.Statement.{Listening, Fed, matchingOf, syncsOf, polynomialAt}
 use Rattle.terminals.specs.Statement.{BlockFed, rr1D6, BlockReceived}
 use Rattle.terminals.specs.Statement.{FlipSeen}
 use Rattle.terminals.specs.Shown.{d6-is}

@@ -1,7 +1,7 @@
 pub mod Side
 pub mod Events
-pub mod Conserved
 pub mod Statement
+pub mod Conserved
 pub mod Shown
 pub mod Demand
 pub mod Register

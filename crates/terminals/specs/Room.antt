@@ -7,7 +7,7 @@ use Rattle.chip.specs.Event.{Event}
 use Rattle.stories.specs.Story.{Which}
 use Rattle.history.specs.Receiving.Stories.{hearsWhere, hears-where}
 use Rattle.terminals.specs.Side.{sideOf, checkingOf}
-use Rattle.terminals.specs.Conserved.{roomy, Fed}
+use Rattle.terminals.specs.Statement.{roomy, Fed}
 use Rattle.terminals.specs.Quiet.{quiet, quiet-keeps}
 
 -- ticks that find room, reads anywhere, and else only what is quiet

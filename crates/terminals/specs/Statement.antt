@@ -16,9 +16,9 @@ use Rattle.queue.specs.Holding.{Holds}
 use Rattle.bytesync.specs.declared.Syncs.{Syncs}
 use Rattle.bytesync.specs.declared.Matching.{Matching}
 use Rattle.bytesync.specs.declared.Reception.{Reception}
-use Rattle.bytesync.specs.Hearing.{searching, expected}
+use Rattle.bytesync.specs.Hearing.{hearBlock, searching, expected}
 use Rattle.blocks.specs.Check.{checkFrom, withCheck}
-use Rattle.blocks.specs.Heard.{entriesOf}
+use Rattle.blocks.specs.Heard.{heeding, entriesOf}
 use Rattle.blocks.specs.Characters.{endsOf, patternBits, patternLength, turnAfter, blockGiven}
 use Rattle.blocks.specs.Characters.{blockBytes, letting}
 use Rattle.blocks.specs.Register.{Tale, Hunt, Within, told, entrantsOf, checkThrough, allOver}
@@ -32,8 +32,9 @@ use Rattle.stories.specs.Received.{ToReceiver, Hears, Reads, Else, toReceiver, 
 use Rattle.stories.specs.Received.{valuesOf, tookOf}
 use Rattle.stories.specs.Received.{bytesOf}
 use Rattle.history.specs.Receiving.Side.{receivingIn}
-use Rattle.terminals.specs.Side.{Side, sideOf, momentsOf}
-use Rattle.terminals.specs.Conserved.{Fed}
+use Rattle.history.specs.Receiving.Events.{roomIf}
+use Rattle.history.specs.Receiving.Stories.{HearsWhere}
+use Rattle.terminals.specs.Side.{Side, sideOf, checkingOf, momentsOf}
 
 -- A receiver that is on, hunt begun, its check preset, queue empty. WR6 and WR7 are bytes, and the
 -- queue has three places: every chip with a history has them
@@ -46,6 +47,17 @@ pub record Listening (x : Side) : Type 0 where
   pub three : length (x .queue .entries) ≡ room
   pub first : x .heeds .matching .syncs .first < 256
   pub second : x .heeds .matching .syncs .second < 256
+
+-- "stays on .. read before a fourth character waits and else untouched but for WR3 D3": a tick that
+-- hands a character over finds room, reads come as they like, and what else happens leaves the side
+-- as it was
+abbrev pub roomy : Side → Bool → Bool → Bool
+roomy x i b =
+    let h = hearBlock (heeding (x .heeds .matching) i) (x .reception) (x .check) b in
+    roomIf (h .some) (x .queue)
+
+abbrev pub Fed : Which → Chip → List Event → Type 0
+Fed w c st = HearsWhere (sideOf w) (λ d b. roomy (sideOf w d) (checkingOf w d) b ≡ true) w c st
 
 abbrev pub matchingOf : Which → Chip → Matching
 matchingOf w c = sideOf w c .heeds .matching
