@@ -14,7 +14,7 @@ use Rattle.line.specs.Frame.{flagBits, contentOf, frame}
 use Rattle.sdlc.specs.declared.Addressing.{Addressing}
 use Rattle.sdlc.specs.declared.Listener.{Listener}
 use Rattle.sdlc.specs.Hearing.{pastFlag, hearSdlc, zeroBit, one, push}
-use Rattle.whole.specs.Heard.{Final, final, before, hearAll, flagFree, onesOver, lead, endMarks}
+use Rattle.whole.specs.Heard.{Final, final, before, hearAll, flagFree, lead, endMarks}
 use Rattle.whole.specs.Laws.Heard.{hear-join}
 use Rattle.whole.specs.Laws.Frames.{flag-leaves}
 use Rattle.whole.specs.Laws.Deaf.{content-free, free-front, ones-counted, abort-no-end}

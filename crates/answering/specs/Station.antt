@@ -1,6 +1,6 @@
 -- Demand 1 of a station's calls: each is refused with the number of the first row that holds, and
 -- then chip and lent rows are as before. Assumes nothing.
-use mathlib.Core.Path.{_≡_, refl, sym, _∙_}
+use mathlib.Core.Path.{_≡_, refl, _∙_}
 use mathlib.Core.Logic.{_≢_}
 use mathlib.Core.List.{List, [], _∷_}
 use Prim.Native.Nat.{ℕ}

@@ -1,6 +1,6 @@
 -- 02, P3: what sending and receiving of the two byte-synchronous modes share: the sync characters
 -- and the check's polynomial. Assumes nothing.
-use mathlib.Core.Bool.{Bool, true, false}
+use mathlib.Core.Bool.{Bool}
 use Prim.Native.Nat.{ℕ, _+_, _*_}
 use Rattle.common.specs.Choice.{if_then_else_}
 use Rattle.line.specs.Check.{sdlc}

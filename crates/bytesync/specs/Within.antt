@@ -1,7 +1,7 @@
 -- Most ticks, in a form of their own and no part of 02: while a byte has bits left, neither
 -- settings nor buffer have a part in a transmit tick; outside hunt, a bit that ends no character
 -- hands nothing over. That they are the ticks is said in Laws/Within. Assumes nothing.
-use mathlib.Core.Bool.{Bool, true, false, not, _&&_}
+use mathlib.Core.Bool.{Bool, false, not, _&&_}
 use Prim.Native.Nat.{ℕ, _+_, _-_, _/_}
 use lib.Dec.{eqb, ltb}
 use Rattle.common.specs.Choice.{if_then_else_}

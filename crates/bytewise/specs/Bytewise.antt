@@ -2,7 +2,7 @@
 -- hold. Assumes nothing.
 use mathlib.Core.Path.{_≡_}
 use mathlib.Core.List.{List}
-use Prim.Native.Nat.{ℕ, _+_, _-_, _*_, _/_, _%_, _<_}
+use Prim.Native.Nat.{ℕ, _+_, _-_, _*_, _/_, _<_}
 use lib.Dec.{ltb}
 use lib.ListN.{length}
 use Rattle.common.specs.Choice.{if_then_else_}

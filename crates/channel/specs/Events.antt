@@ -1,6 +1,6 @@
 -- 01, Events: data, ticks and lines of one channel, and which of its sources are pending. Assumes
 -- nothing.
-use mathlib.Core.Bool.{Bool, true, false, not, _&&_, _||_}
+use mathlib.Core.Bool.{Bool, false, not, _&&_, _||_}
 use Prim.Native.Nat.{ℕ}
 use lib.Dec.{eqb, leb}
 use Rattle.common.specs.Choice.{if_then_else_}
@@ -12,7 +12,6 @@ use Rattle.sender.specs.declared.Ticked.{Ticked}
 use Rattle.sender.specs.Sender.{tick, written}
 use Rattle.receiver.specs.declared.Heard.{Heard}
 use Rattle.receiver.specs.Receiver.{hear}
-use Rattle.settings.specs.declared.Lines.{Lines}
 use Rattle.interrupts.specs.declared.Sources.{Sources}
 use Rattle.channel.specs.declared.Channel.{Channel}
 use Rattle.channel.specs.declared.Answer.the-variants.{Done, Gave, Refused}

@@ -1,6 +1,6 @@
 -- 01, Events: the calls of the chip, each with its refusals. "The lowest number wins for a chip
 -- call (1, 2, 3)"; 02, P5: 10 "after 1". Assumes nothing.
-use mathlib.Core.Bool.{Bool, true, false, _&&_, _||_}
+use mathlib.Core.Bool.{Bool, false, _&&_}
 use Prim.Native.Nat.{ℕ}
 use lib.Dec.{eqb, leb}
 use Rattle.common.specs.Choice.{if_then_else_}
@@ -11,7 +11,7 @@ use Rattle.interrupts.specs.Interrupts.{ended}
 use Rattle.settings.specs.Settings.{commandIn}
 use Rattle.channel.specs.declared.Side.the-variants.{A, B}
 use Rattle.channel.specs.declared.Answer.{Answer}
-use Rattle.channel.specs.declared.Answer.the-variants.{Done, Gave, Refused}
+use Rattle.channel.specs.declared.Answer.the-variants.{Done, Refused}
 use Rattle.channel.specs.declared.Answered.{Answered}
 use Rattle.channel.specs.declared.Channel.{Channel}
 use Rattle.channel.specs.Channel.{answered, resetWith}

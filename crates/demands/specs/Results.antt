@@ -1,7 +1,7 @@
 -- 01, How tight the contracts are: "For all inputs, refusals too, a public contract decides result,
 -- chip and lent bytes; prove that two results allowed by it are equal". The forms of contract that
 -- the product has, and that of each: docs/CONTRACTS.md names what is left open. Assumes nothing.
-use mathlib.Core.Path.{_≡_, sym, _∙_}
+use mathlib.Core.Path.{_≡_}
 use mathlib.Core.List.{List}
 use Prim.Native.Nat.{ℕ}
 use Rattle.promises.specs.Contracts.{Allows, one-result}

@@ -25,7 +25,6 @@ use Rattle.blocks.specs.Laws.Sent.{sync-length, closed-length}
 use Rattle.sender.specs.declared.Sender.{Sender}
 use Rattle.sender.specs.Sender.{checkPreset, latchCleared}
 use Rattle.settings.specs.Settings.{modeIn, sendingOf}
-use Rattle.channel.specs.declared.Channel.{Channel}
 use Rattle.chip.specs.declared.Chip.{Chip}
 use Rattle.chip.specs.Event.{ControlWrite}
 use Rattle.stories.specs.Story.{Which, number, chan, happens, after}

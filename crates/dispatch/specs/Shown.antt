@@ -1,6 +1,6 @@
 -- The tick that finds the line dry sends the check's first bit and sets the latch, and RR0 D6 shows
 -- it. Assumes nothing.
-use mathlib.Core.Path.{_≡_, refl, ap, _∙_}
+use mathlib.Core.Path.{_≡_, ap, _∙_}
 use mathlib.Core.Bool.{Bool, true, false}
 use mathlib.Core.List.{List, [], _∷_, _++_}
 use Rattle.shared.specs.Shared.{shared}
@@ -9,12 +9,9 @@ use Rattle.bytesync.specs.declared.Synced.{Synced}
 use Rattle.bytesync.specs.Sending.{startCheck, tickBlock}
 use Rattle.blocks.specs.Come.{Sends, sends}
 use Rattle.blocks.specs.Laws.Come.{check-begins}
-use Rattle.channel.specs.Channel.{settled}
-use Rattle.channel.specs.Events.{transmitTick}
 use Rattle.chip.specs.declared.Chip.{Chip}
-use Rattle.chip.specs.Chip.{transmitCall}
 use Rattle.chip.specs.Event.{Transmit}
-use Rattle.stories.specs.Story.{Which, A, B, number, chan, happens}
+use Rattle.stories.specs.Story.{Which, number, chan, happens}
 use Rattle.stories.specs.Sent.{lineOf}
 use Rattle.shown.specs.Shown.{unlatched-shows, tick-shown, shows-read}
 use Rattle.history.specs.Sending.Events.{tick-pointer}

@@ -10,7 +10,6 @@ use Rattle.script.specs.Step.{step}
 use Rattle.script.specs.Shown.{shown}
 use Rattle.text.specs.declared.Line.{Line}
 use Rattle.text.specs.Text.{emptyLine, withAll, numbered}
-use Rattle.events.specs.declared.Event.{Event}
 use Rattle.events.specs.declared.Ending.{Ending}
 use Rattle.events.specs.declared.Ending.the-variants.{All, Unknown, Cut, TooLong}
 use Rattle.events.specs.declared.Found.{Found}

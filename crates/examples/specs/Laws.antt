@@ -1,8 +1,7 @@
 -- The marked examples of 01 hold, all of them in one theorem, by computing what the definitions
 -- give. Assumes nothing.
 use mathlib.Core.Path.{_≡_, refl}
-use mathlib.Core.List.{List, map}
-use Prim.Native.Nat.{ℕ}
+use mathlib.Core.List.{map}
 use Rattle.line.specs.Bits.{cells}
 use Rattle.line.specs.Insertion.{zeros}
 use Rattle.notes.specs.NoteList.{readFrom, restFrom, readList}

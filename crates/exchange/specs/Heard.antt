@@ -8,7 +8,6 @@ use Prim.Native.Nat.{ℕ, _<_}
 use native.Mathlib.Omega.{arith}
 use lib.ListN.{drop}
 use Rattle.line.specs.Bits.{textBits, Below, below-none as none, below-more as more}
-use Rattle.bytesync.specs.Hearing.{expected}
 use Rattle.blocks.specs.Check.{checkBytes, withCheck}
 use Rattle.blocks.specs.Characters.{endsOf, furtherSyncs, turnAfter, blockGiven}
 use Rattle.chip.specs.Computing.{computing}

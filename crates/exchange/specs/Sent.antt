@@ -1,11 +1,10 @@
 -- A block sent, computed to meet what is asked, and the theorem said of it: Bisync, syncs 10 and
 -- 16, CRC-16, two bytes, a pad straight behind the check, other events in between. Assumes nothing.
 use mathlib.Core.Path.{_≡_, refl}
-use mathlib.Core.Bool.{true, false}
+use mathlib.Core.Bool.{true}
 use mathlib.Core.List.{List, [], _∷_, _++_}
 use native.Mathlib.Omega.{arith}
-use Rattle.line.specs.Bits.{lowBits}
-use Rattle.blocks.specs.Come.{closed, syncHead, blockBits}
+use Rattle.blocks.specs.Come.{syncHead, blockBits}
 use Rattle.chip.specs.Computing.{computing}
 use Rattle.chip.specs.declared.Chip.{Chip}
 use Rattle.chip.specs.Chip.{hardReset}

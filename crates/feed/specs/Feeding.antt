@@ -1,6 +1,6 @@
 -- An SDLC sender that is fed: before each tick the next byte, if there is one and the buffer takes
 -- it. It is on, with the check included. Assumes nothing.
-use mathlib.Core.Bool.{Bool, true, false, not, _&&_}
+use mathlib.Core.Bool.{Bool, not, _&&_}
 use mathlib.Core.List.{List, [], _∷_}
 use Prim.Native.Nat.{ℕ, zero, suc}
 use lib.Dec.{ltb}

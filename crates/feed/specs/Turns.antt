@@ -1,7 +1,6 @@
 -- The ticks of a fed sender from one look at the buffer to the next, in a form of their own and no
 -- part of 01: the rest of a byte goes in one loop over a few numbers, any other tick by itself.
 -- That they are the ticks is said in Laws/Turns. Assumes nothing.
-use mathlib.Core.Bool.{Bool, true, false}
 use mathlib.Core.List.{List}
 use Prim.Native.Nat.{ℕ, zero, suc, _+_, _-_, _/_}
 use lib.Dec.{ltb}

@@ -1,5 +1,5 @@
 -- Small laws of tests that came out true. Assumes nothing.
-use mathlib.Core.Path.{_≡_, refl, sym, ap, _∙_}
+use mathlib.Core.Path.{_≡_, refl}
 use mathlib.Core.Bool.{Bool, true, false, not, _||_, Bool·beq}
 use Rattle.common.specs.Tools.{void}
 

@@ -1,7 +1,6 @@
 -- Demand 3 of hosts that are not punctual, and the flag's own bits. Assumes nothing.
 use mathlib.Core.Path.{_≡_, refl}
 use mathlib.Core.List.{List, _++_}
-use Prim.Native.Nat.{ℕ}
 use Rattle.chip.specs.Event.{Event}
 use Rattle.tales.specs.Tale.{Happens, telling, digits, reads, line}
 use Rattle.tales.specs.Words.{command, hears, writes, takes, ticks, sendAbort, presetSent}

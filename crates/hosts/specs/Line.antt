@@ -9,8 +9,8 @@ use lib.Dec.{eqb·suc-zero}
 use lib.ListN.{length, take, length-append}
 use lib.Seq.{take-at}
 use Rattle.common.specs.Tools.{bool-or, void}
-use Rattle.line.specs.Bits.{lowBits, textBits}
-use Rattle.line.specs.Check.{sdlc, ones, checkOver, topBits, checkBits}
+use Rattle.line.specs.Bits.{lowBits}
+use Rattle.line.specs.Check.{ones, topBits}
 use Rattle.line.specs.Insertion.{zeroIf, stuff}
 use Rattle.line.specs.Frame.{flagBits, frame}
 use Rattle.sdlc.specs.declared.Framer.{Framer}

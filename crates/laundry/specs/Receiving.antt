@@ -3,7 +3,7 @@
 -- check when the next one has been assembled, if WR3 D3 is set at that moment; RR1 D6 is then 1
 -- exactly while that check is not zero." Assumes nothing.
 use mathlib.Core.Path.{_≡_, refl}
-use mathlib.Core.List.{List, [], _∷_, _++_, map}
+use mathlib.Core.List.{List, [], _∷_, _++_}
 use Prim.Native.Nat.{ℕ}
 use Rattle.chip.specs.Event.{Event}
 use Rattle.tales.specs.Tale.{Happens, telling, bytes, reads}

@@ -2,8 +2,7 @@
 -- them the check if the latch is clear and WR5 D0 set, and sets the latch. WR5 D2 = 1 chooses
 -- x^16+x^15+x^2+1, .. preset to zeros here and not complemented." Assumes nothing.
 use mathlib.Core.Path.{_≡_, refl}
-use mathlib.Core.List.{List, [], _∷_, _++_, map}
-use Prim.Native.Nat.{ℕ}
+use mathlib.Core.List.{List, _++_}
 use Rattle.chip.specs.Event.{Event}
 use Rattle.tales.specs.Tale.{Happens, telling, digits, line, reads}
 use Rattle.tales.specs.Words.{command, set, writes, ticks, presetSent, clearUnderrun, resetStatus}

@@ -1,6 +1,6 @@
 -- What a unit of Monosync and Bisync is, told by tests, for the making of wrong chips. Assumes
 -- nothing.
-use mathlib.Core.Bool.{Bool, true, false}
+use mathlib.Core.Bool.{Bool, false}
 use lib.Dec.{eqb}
 use Rattle.bytesync.specs.declared.BlockUnit.{BlockUnit}
 use Rattle.bytesync.specs.declared.BlockUnit.the-variants.{Mark, Sync, Byte, Check}

@@ -1,22 +1,21 @@
 -- Laws of the layout: where there is room for the frame, the frame is what is laid out. Assumes
 -- nothing.
-use mathlib.Core.Path.{_≡_, refl, sym, ap, ap₂, _∙_}
-use mathlib.Core.Bool.{Bool}
+use mathlib.Core.Path.{_≡_, refl, sym, ap, _∙_}
 use mathlib.Core.List.{List, [], _∷_, _++_}
-use Prim.Native.Nat.{ℕ, zero, suc, _+_, _-_, _*_, _/_, _%_, _≤_, _<_}
+use Prim.Native.Nat.{ℕ, _+_, _-_, _*_, _/_, _%_, _≤_, _<_}
 use native.Mathlib.Omega.{arith}
 use native.Mathlib.Nat.{zero-add}
 use native.Mathlib.Numerals.{add-one}
 use lib.Bits.{bitXor}
-use lib.ListN.{length, length-append, getD, drop, drop-of-length-le}
+use lib.ListN.{length, getD, drop, drop-of-length-le}
 use lib.Seq.{sets, sets-eq, length-sets, drop-cons}
 use Rattle.line.specs.Bits.{lowBits, textBits, cells}
 use Rattle.line.specs.Check.{sdlc, ones, checkOver}
-use Rattle.line.specs.Insertion.{stuff, runOver}
+use Rattle.line.specs.Insertion.{stuff}
 use Rattle.line.specs.Frame.{flagBits, checkBytes, contentOf, withCheck, frame, zerosOf, ticksOf}
 use Rattle.line.specs.Laws.Check.{check-join}
 use Rattle.line.specs.Laws.Bits.{lowBits-length, cells-length}
-use Rattle.line.specs.Laws.Insertion.{stuff-join, stuff-length}
+use Rattle.line.specs.Laws.Insertion.{stuff-length}
 use Rattle.line.specs.Laws.Frame.{content-is, content-length, ticks-are}
 use Rattle.mirror.specs.Mirror.{mirror, mirroredByte}
 use Rattle.mirror.specs.Laws.{mirror-ones, mirror-bytes, mirroredByte-lt, mirror-mirroredByte}

@@ -1,7 +1,7 @@
 -- 01, Sending: "The check: x^16+x^12+x^5+1, preset ones, complemented, x^15 first (ISO/IEC 13239)".
 -- The register is a number of sixteen bits, x^15 the highest; a polynomial is the number of its
 -- powers below x^16. Assumes nothing.
-use mathlib.Core.Bool.{Bool, true, false, not, Bool·beq}
+use mathlib.Core.Bool.{Bool, not, Bool·beq}
 use mathlib.Core.List.{List, [], _∷_}
 use Prim.Native.Nat.{ℕ, zero, suc, _*_, _/_, _%_}
 use lib.Bits.{bitXor}

@@ -1,7 +1,7 @@
 -- The receive queue and the bits of RR1 that it decides: 01, Registers (RR1), Receiving (the queue)
 -- and Interrupts (special). Every queue is accepted, also one whose count no history made. Assumes
 -- nothing.
-use mathlib.Core.Bool.{Bool, true, false, not, _||_}
+use mathlib.Core.Bool.{Bool, false, not, _||_}
 use mathlib.Core.List.{List, [], _∷_}
 use Prim.Native.Nat.{ℕ, _+_, _-_}
 use lib.Dec.{eqb, ltb}

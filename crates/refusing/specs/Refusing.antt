@@ -19,8 +19,6 @@ use Rattle.line.specs.Line.{noteFits}
 use Rattle.zeros.specs.Counted.{countedNumber}
 use Rattle.zeros.specs.Zeros.{countOf}
 use Rattle.writer.specs.Writer.{writeOf, bufferAfter}
-use Rattle.head.specs.declared.Head.{Head}
-use Rattle.head.specs.declared.Head.the-variants.{End, Note, Bad}
 use Rattle.head.specs.Number.{headNumber}
 use Rattle.head.specs.NoteHead.{lengthBytes, lengthAt, headOf}
 use Rattle.notes.specs.NoteList.{Reading, whole, refuses, restFrom, firstNote, version, longestList}

@@ -3,8 +3,8 @@
 -- count stays below five; at most seven ones are counted on the line, the delay has its leading one
 -- and fits a byte, and a character behind it has at most seven bits. Assumes nothing.
 use mathlib.Core.Path.{_≡_}
-use mathlib.Core.Bool.{Bool, false}
-use Prim.Native.Nat.{ℕ, _≤_, _<_}
+use mathlib.Core.Bool.{false}
+use Prim.Native.Nat.{_≤_, _<_}
 use Rattle.line.specs.declared.Insertion.{Insertion}
 use Rattle.sdlc.specs.declared.LineUnit.{LineUnit}
 use Rattle.sdlc.specs.declared.LineUnit.the-variants.{Mark, Flag, Byte, Check, Abort}

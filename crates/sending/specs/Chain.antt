@@ -1,7 +1,7 @@
 -- A closing flag opens the next frame: the check preset and the latch cleared within it, demand 3
 -- starts again. Assumes nothing.
 use mathlib.Core.Path.{_≡_, refl, sym, ap, _∙_, subst}
-use mathlib.Core.Bool.{true, false}
+use mathlib.Core.Bool.{false}
 use mathlib.Core.List.{[], _∷_, _++_}
 use Prim.Native.Nat.{ℕ, zero, suc}
 use native.Mathlib.Omega.{arith}
@@ -17,7 +17,6 @@ use Rattle.settings.specs.Settings.{modeIn, sendingOf}
 use Rattle.sdlc.specs.declared.Framer.{Framer}
 use Rattle.sdlc.specs.Sound.{SoundUnit}
 use Rattle.channel.specs.declared.Channel.{Channel}
-use Rattle.chip.specs.declared.Chip.{Chip}
 use Rattle.chip.specs.Event.{ControlWrite}
 use Rattle.whole.specs.Come.{toCome}
 use Rattle.whole.specs.Stage.{Stage, opening, inByte, inCheck, closing}

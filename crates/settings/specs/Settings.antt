@@ -1,5 +1,5 @@
 -- 01, Registers: what the write registers say, each bit named once. Assumes nothing.
-use mathlib.Core.Bool.{Bool, true, false, not, _&&_, _||_}
+use mathlib.Core.Bool.{Bool, not, _&&_, _||_}
 use Prim.Native.Nat.{ℕ, _/_, _%_}
 use lib.Dec.{eqb}
 use Rattle.common.specs.Choice.{if_then_else_}

@@ -1,6 +1,6 @@
 -- 01, Sending: "the low bits, parity": what an asynchronous character of a length sends of a byte.
 -- A length that is none of five, six and seven counts as eight. Assumes nothing.
-use mathlib.Core.Bool.{Bool, true, false, not}
+use mathlib.Core.Bool.{Bool, not}
 use mathlib.Core.List.{List, [], _∷_}
 use Prim.Native.Nat.{ℕ}
 use lib.Dec.{eqb}

@@ -1,13 +1,13 @@
 -- Laws of the insertion table: a stamp's parts, and the cells of four bits. Assumes nothing.
-use mathlib.Core.Path.{_≡_, refl, sym, ap, ap₂, _∙_}
-use mathlib.Core.Bool.{Bool, true, false}
+use mathlib.Core.Path.{_≡_, sym, ap, ap₂, _∙_}
+use mathlib.Core.Bool.{Bool}
 use mathlib.Core.List.{List, [], _∷_, _++_, append-assoc}
 use Prim.Native.Nat.{ℕ, _+_, _-_, _*_, _/_, _%_, _^_, _≤_, _<_}
 use native.Mathlib.Omega.{arith}
 use lib.Pow.{pow-mono}
 use lib.ListN.{length, getD, take, drop, length-take, length-drop, take-append-drop}
 use Rattle.line.specs.Bits.{odd, lowBits, fromLow, oneIf, cells}
-use Rattle.line.specs.Insertion.{stuff, zeros, runOver}
+use Rattle.line.specs.Insertion.{zeros, runOver}
 use Rattle.line.specs.Laws.Bits.{lowBits-length, lowBits-split, fromLow-lt, lowBits-fromLow}
 use Rattle.line.specs.Laws.Insertion.{stuff-length, zeros-most, runOver-lt}
 use Rattle.line.specs.Laws.Bits.{bit-few}

@@ -9,8 +9,6 @@ use lib.ListN.{replicate}
 use Rattle.line.specs.Check.{checkBits}
 use Rattle.line.specs.Insertion.{stuff}
 use Rattle.line.specs.Frame.{flagBits, noteBits, checkOf, frame}
-use Rattle.status.specs.Status.{afresh}
-use Rattle.channel.specs.Control.{preset}
 use Rattle.chip.specs.Computing.{computing}
 use Rattle.chip.specs.declared.Chip.{Chip}
 use Rattle.chip.specs.Chip.{hardReset}

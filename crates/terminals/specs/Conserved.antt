@@ -21,7 +21,7 @@ use Rattle.terminals.specs.Side.{Heeded, Side, side, sideOf, checkingOf,
 use Rattle.terminals.specs.Side.{momentsOf}
 use Rattle.history.specs.Receiving.Events.{queuedIf, roomIf, queue-takes}
 use Rattle.history.specs.Receiving.Stories.{over, hears, reads, still}
-use Rattle.terminals.specs.Events.{matchedBy, heardSide, readSide, Follows}
+use Rattle.terminals.specs.Events.{heardSide, readSide, Follows}
 use Rattle.terminals.specs.Events.{Hearing, follows}
 use Rattle.terminals.specs.Statement.{roomy, Fed}
 

@@ -1,6 +1,6 @@
 -- A frame from end to end: where demand 3 starts, the bits of the opening flag that are sent there,
 -- and when the closing flag has ended. Assumes nothing.
-use mathlib.Core.Bool.{Bool, true, false, _&&_}
+use mathlib.Core.Bool.{Bool, false, _&&_}
 use mathlib.Core.List.{List}
 use Prim.Native.Nat.{ℕ, _-_}
 use lib.Dec.{eqb}

@@ -2,11 +2,10 @@
 use mathlib.Core.Path.{_≡_, refl, ap, _∙_}
 use mathlib.Core.Bool.{Bool, true, false, _&&_}
 use mathlib.Core.List.{List, [], _∷_}
-use Prim.Native.Nat.{ℕ, zero, suc, _+_, _*_, _-_, _/_, _%_}
+use Prim.Native.Nat.{ℕ, zero, suc, _-_}
 use native.Mathlib.Omega.{arith}
 use lib.Dec.{eqb, eqb·suc-zero}
 use lib.ListN.{length}
-use Rattle.line.specs.Bits.{odd, oneIf}
 use Rattle.line.specs.Bits.{fromLow}
 use Rattle.shared.specs.declared.Shared.{Shared}
 use Rattle.shared.specs.Shared.{emptied}

@@ -1,10 +1,9 @@
 -- Ticks keep what a history gives. Assumes nothing.
-use mathlib.Core.Bool.{Bool, true, false, _&&_}
-use Prim.Native.Nat.{ℕ, _+_, _≤_}
+use mathlib.Core.Bool.{Bool, _&&_}
+use Prim.Native.Nat.{ℕ, _≤_}
 use native.Mathlib.Omega.{arith}
 use lib.Dec.{eqb}
 use Rattle.common.specs.Tools.{if-elim}
-use Rattle.line.specs.Bits.{oneIf}
 use Rattle.shared.specs.declared.Shared.{Shared}
 use Rattle.asynchronous.specs.declared.Format.{Format}
 use Rattle.asynchronous.specs.declared.Typing.{Typing}

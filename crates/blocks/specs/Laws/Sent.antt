@@ -4,14 +4,14 @@
 use mathlib.Core.Path.{_≡_, refl, sym, ap, ap₂, _∙_}
 use mathlib.Core.Bool.{Bool, true, false}
 use mathlib.Core.List.{List, [], _∷_, _++_, append-assoc, append-nil}
-use Prim.Native.Nat.{ℕ, zero, suc, _+_, _*_, _-_, _/_, _^_, _≤_, _<_}
+use Prim.Native.Nat.{ℕ, suc, _+_, _*_, _-_, _/_, _^_, _≤_, _<_}
 use native.Mathlib.Omega.{arith}
 use lib.ListN.{length, take, length-append}
 use lib.Seq.{take-at}
 use Rattle.common.specs.Choice.{if_then_else_}
 use Rattle.common.specs.Tools.{void}
 use Rattle.line.specs.Bits.{lowBits, textBits}
-use Rattle.line.specs.Check.{shifted, topBits}
+use Rattle.line.specs.Check.{topBits}
 use Rattle.line.specs.Laws.Bits.{lowBits-length, lowBits-split, textBits-length}
 use Rattle.shared.specs.Shared.{shared}
 use Rattle.bytesync.specs.declared.Syncs.{Syncs}

@@ -1,5 +1,5 @@
 -- What the byte-synchronous modes hand over is plain. Assumes nothing.
-use mathlib.Core.Bool.{Bool, true, false}
+use mathlib.Core.Bool.{Bool}
 use Prim.Native.Nat.{ℕ}
 use lib.Dec.{ltb}
 use Rattle.common.specs.Tools.{if-elim}

@@ -15,7 +15,7 @@ use Rattle.bytesync.specs.declared.Synced.{Synced}
 use Rattle.bytesync.specs.declared.Matching.{Matching}
 use Rattle.bytesync.specs.declared.Reception.{Reception}
 use Rattle.bytesync.specs.declared.Matched.{Matched}
-use Rattle.bytesync.specs.Sending.{syncLeft, startSync, byteOrSync, underrun, following, next}
+use Rattle.bytesync.specs.Sending.{syncLeft, byteOrSync, underrun, following, next}
 use Rattle.bytesync.specs.Sending.{tickBlock}
 use Rattle.bytesync.specs.Hearing.{shiftIn, counted, syncSeen, hunting, lastBit, arrived}
 use Rattle.bytesync.specs.Hearing.{assembling}

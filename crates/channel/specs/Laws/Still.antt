@@ -7,7 +7,6 @@ use Rattle.common.specs.Tools.{by-test, void, both-left, both-right, beq→}
 use Rattle.common.specs.declared.Mode.{Mode}
 use Rattle.common.specs.declared.Mode.the-variants.{NoMode, Asynchronous, Monosync, Bisync, Sdlc}
 use Rattle.line.specs.Bits.{oneIf}
-use Rattle.line.specs.Check.{differs}
 use Rattle.line.specs.Laws.Xor.{differs-self}
 use Rattle.sender.specs.declared.Ticked.{Ticked}
 use Rattle.receiver.specs.declared.Heard.{Heard}

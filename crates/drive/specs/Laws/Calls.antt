@@ -2,15 +2,13 @@
 -- Assumes nothing.
 use mathlib.Core.Path.{_≡_, refl, sym, ap, subst, _∙_}
 use mathlib.Core.Bool.{Bool, true, false, not, _&&_}
-use mathlib.Core.List.{List, [], _∷_}
-use Prim.Native.Nat.{ℕ, _+_, _/_}
+use Prim.Native.Nat.{ℕ}
 use lib.Dec.{eqb}
 use borrow.Author.Tests.{eqb-true}
-use Rattle.common.specs.Choice.{if_then_else_}
 use Rattle.common.specs.Mode.{inSdlc}
-use Rattle.common.specs.Tools.{by-test, void, both-left, both-right, not-true, and-false}
+use Rattle.common.specs.Tools.{by-test, both-left, both-right, not-true, and-false}
 use Rattle.common.specs.declared.Mode.{Mode}
-use Rattle.common.specs.declared.Mode.the-variants.{NoMode, Asynchronous, Monosync, Bisync, Sdlc}
+use Rattle.common.specs.declared.Mode.the-variants.{Sdlc}
 use Rattle.line.specs.Bits.{odd, oneIf}
 use Rattle.line.specs.Check.{ones}
 use Rattle.shared.specs.declared.Shared.{Shared}
@@ -19,7 +17,6 @@ use Rattle.shared.specs.Shared.{shared, cleared, checkSet}
 use Rattle.sdlc.specs.declared.LineUnit.the-variants.{Mark}
 use Rattle.sdlc.specs.declared.Framing.{Framing}
 use Rattle.sdlc.specs.declared.Framer.{Framer}
-use Rattle.sdlc.specs.declared.Framed.{Framed}
 use Rattle.sdlc.specs.Sending.{notCounted, framer, tickSdlc, aborting, cutShort, abortedBy}
 use Rattle.sdlc.specs.Laws.Tick.{abort-cuts}
 use Rattle.whole.specs.Come.{good, filledWith}
@@ -40,7 +37,6 @@ use Rattle.channel.specs.Control.{commanded, preset, commandStep, presetStep, w
 use Rattle.channel.specs.Control.{setRegister, controlWritten}
 use Rattle.channel.specs.Events.{transmitTick}
 use Rattle.chip.specs.declared.Chip.{Chip}
-use Rattle.chip.specs.declared.Outcome.{Outcome}
 use Rattle.interrupts.specs.declared.Six.{Six}
 use Rattle.interrupts.specs.Interrupts.{ended}
 use Rattle.chip.specs.Interrupts.{chip, serviceOf, inService}

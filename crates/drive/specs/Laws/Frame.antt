@@ -25,12 +25,11 @@ use Rattle.whole.specs.Stage.{Stage}
 use Rattle.whole.specs.Start.{frameEnded}
 use Rattle.whole.specs.Laws.Come.{moves}
 use Rattle.whole.specs.Laws.Start.{at-start, start-stage}
-use Rattle.sender.specs.Sender.{framerOf}
 use Rattle.chip.specs.declared.Chip.{Chip}
 use Rattle.chip.specs.Chip.{dataWriteCall}
 use Rattle.feed.specs.Feeding.{afterTicks, ticksLine, behindFlag}
 use Rattle.feed.specs.Laws.Feeding.{ends}
-use Rattle.drive.specs.Drive.{betweenFrames, writeA, tickA, bitA, offer, driven, drivenLine}
+use Rattle.drive.specs.Drive.{betweenFrames, writeA, tickA, offer, driven, drivenLine}
 use Rattle.drive.specs.Drive.{prepared, ticksToFlag, flagEnded, frameOpened, ticksLeft}
 use Rattle.drive.specs.Framer.{chipWith}
 use Rattle.drive.specs.Laws.Calls.{Stands, stands-as, tick-stands, bit-stands, write-stands}

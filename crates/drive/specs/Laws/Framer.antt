@@ -14,7 +14,7 @@ use Rattle.sdlc.specs.declared.LineUnit.the-variants.{Mark, Flag, Byte, Check, 
 use Rattle.sdlc.specs.declared.Framer.{Framer}
 use Rattle.sdlc.specs.declared.Framed.{Framed}
 use Rattle.bytesync.specs.Sending.{sendsCheck}
-use Rattle.sdlc.specs.Sending.{following, next, noBitLeft, goesOn, going, tickSdlc, checking}
+use Rattle.sdlc.specs.Sending.{following, noBitLeft, goesOn, going, tickSdlc, checking}
 use Rattle.whole.specs.Come.{good, filledWith}
 use Rattle.whole.specs.Laws.Latch.{tick-set}
 use Rattle.sender.specs.declared.Ticked.{Ticked}
@@ -23,7 +23,6 @@ use Rattle.sender.specs.Good.{Good}
 use Rattle.settings.specs.Settings.{transmitOn}
 use Rattle.status.specs.declared.Live.{Live}
 use Rattle.status.specs.declared.Status.{Status}
-use Rattle.channel.specs.declared.Channel.{Channel}
 use Rattle.status.specs.Status.{noticed}
 use Rattle.channel.specs.Channel.{withSender, withStatus, withTransmit, liveOf, settled}
 use Rattle.channel.specs.Events.{transmitTick}
@@ -31,7 +30,7 @@ use Rattle.channel.specs.Laws.Still.{noticed-same}
 use Rattle.chip.specs.declared.Chip.{Chip}
 use Rattle.chip.specs.Interrupts.{chip}
 use Rattle.chip.specs.Chip.{dataWriteCall, transmitCall}
-use Rattle.feed.specs.Feeding.{takesByte, Supplied, supplied, supply, afterTicks, ticksLine}
+use Rattle.feed.specs.Feeding.{takesByte, Supplied, supply, afterTicks, ticksLine}
 use Rattle.drive.specs.Drive.{lookA, emptyA, writeA, tickA, bitA, Offered, offered, offer}
 use Rattle.drive.specs.Drive.{driven, drivenLine}
 use Rattle.drive.specs.Framer.{withUnderrun, channelWith, chipWith}

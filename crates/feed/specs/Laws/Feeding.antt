@@ -21,12 +21,12 @@ use Rattle.shared.specs.Shared.{shared}
 use Rattle.sdlc.specs.declared.Framer.{Framer}
 use Rattle.sdlc.specs.declared.Framed.{Framed}
 use Rattle.sdlc.specs.Sending.{checking, tickSdlc}
-use Rattle.whole.specs.Come.{good, closed, toCome, filledWith}
+use Rattle.whole.specs.Come.{good, closed, toCome}
 use Rattle.whole.specs.Stage.{sinceAfter, inTime, Stage, opening, inByte}
 use Rattle.whole.specs.Start.{frameEnded}
 use Rattle.whole.specs.Laws.Come.{takes, moves}
 use Rattle.whole.specs.Laws.Start.{unended-some}
-use Rattle.feed.specs.Feeding.{takesByte, Supplied, supplied, supply, afterTicks, ticksLine}
+use Rattle.feed.specs.Feeding.{takesByte, Supplied, supply, afterTicks, ticksLine}
 use Rattle.feed.specs.Feeding.{behindFlag, begins, mostToWrite}
 
 -- A choice whose test is known

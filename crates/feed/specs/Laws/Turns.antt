@@ -3,7 +3,7 @@
 use mathlib.Core.Path.{_≡_, refl, sym, ap, subst, _∙_}
 use mathlib.Core.Bool.{Bool, true, false, not, _&&_}
 use mathlib.Core.List.{List, [], _∷_}
-use Prim.Native.Nat.{ℕ, zero, suc, _+_, _-_, _*_, _/_, _≤_, _<_}
+use Prim.Native.Nat.{ℕ, zero, suc, _+_, _-_, _*_, _≤_, _<_}
 use native.Mathlib.Omega.{arith}
 use native.Mathlib.Numerals.{add-one}
 use lib.Dec.{ltb, eqb, eqb·suc-zero}
@@ -11,9 +11,8 @@ use lib.ListN.{length, drop, getD, length-drop}
 use lib.Seq.{drop-cons}
 use borrow.Author.Tests.{lt-ltb, le-ltb}
 use Rattle.common.specs.Choice.{if_then_else_}
-use Rattle.common.specs.Tools.{if-elim, by-test, bool-or, lt-or, void, and-false}
-use Rattle.line.specs.Bits.{odd, oneIf}
-use Rattle.line.specs.Insertion.{counted}
+use Rattle.common.specs.Tools.{if-elim, by-test, lt-or, void, and-false}
+use Rattle.line.specs.Bits.{oneIf}
 use Rattle.line.specs.declared.Insertion.{Insertion}
 use Rattle.shared.specs.declared.Shared.{Shared}
 use Rattle.sdlc.specs.declared.LineUnit.{LineUnit}

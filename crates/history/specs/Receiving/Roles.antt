@@ -1,6 +1,5 @@
 -- An event by what it is to a receiver: what holds of its tick, of its read and of anything else
 -- holds of every event. Assumes nothing.
-use mathlib.Core.Path.{_≡_}
 use mathlib.Core.Bool.{Bool, true, false}
 use Prim.Native.Nat.{ℕ}
 use lib.Dec.{leb}

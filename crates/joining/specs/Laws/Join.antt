@@ -1,16 +1,16 @@
 -- Laws of the join, from the two laws of 02, P10: `check-join` (a joined text is gone on with from
 -- the register behind its first part) and `check-linear` (two registers over one text differ by
 -- their difference over zeros). Assumes nothing.
-use mathlib.Core.Path.{_≡_, refl, sym, ap, ap₂, _∙_}
-use mathlib.Core.Bool.{Bool, false}
+use mathlib.Core.Path.{_≡_, sym, ap, _∙_}
+use mathlib.Core.Bool.{false}
 use mathlib.Core.List.{List, _++_}
-use Prim.Native.Nat.{ℕ, _*_}
+use Prim.Native.Nat.{ℕ}
 use lib.Bits.{bitXor, xor-comm, xor-self, xor-zero-r}
 use lib.ListN.{length, replicate}
 use Rattle.line.specs.Bits.{textBits}
 use Rattle.line.specs.Check.{checkOver}
 use Rattle.line.specs.Laws.Bits.{textBits-join, textBits-length}
-use Rattle.line.specs.Laws.Xor.{xor-assoc, xor-left-comm}
+use Rattle.line.specs.Laws.Xor.{xor-assoc}
 use Rattle.line.specs.Laws.Check.{check-join, check-linear}
 use Rattle.joining.specs.declared.CheckRule.{CheckRule}
 use Rattle.joining.specs.Rule.{checkBy}

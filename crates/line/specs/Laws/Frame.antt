@@ -1,15 +1,15 @@
 -- Laws of a note's frame: its ticks, its inserted zeros, and that it is the frame of one note
 -- alone. Assumes nothing.
-use mathlib.Core.Path.{_≡_, refl, sym, ap, _∙_}
-use mathlib.Core.List.{List, [], _∷_, _++_, append-nil, append-cancel-left, append-cancel-right}
+use mathlib.Core.Path.{_≡_, sym, ap, _∙_}
+use mathlib.Core.List.{List, _++_, append-nil, append-cancel-left, append-cancel-right}
 use mathlib.Core.Bool.{Bool}
-use Prim.Native.Nat.{ℕ, _+_, _*_, _/_, _≤_, _<_}
+use Prim.Native.Nat.{ℕ, _+_, _*_, _/_, _≤_}
 use native.Mathlib.Omega.{arith}
 use lib.ListN.{length, take, drop, length-append, length-take, length-drop, take-append-drop}
 use lib.Seq.{take-at}
 use Rattle.line.specs.Bits.{lowBits, textBits, fromLow, Below}
 use Rattle.line.specs.Check.{sdlc, ones, checkOver, checkBits, remainder}
-use Rattle.line.specs.Insertion.{stuff, zeros, unstuff}
+use Rattle.line.specs.Insertion.{stuff, unstuff}
 use Rattle.line.specs.Frame.{flagBits, noteBits, checkOf, contentOf, checkBytes, withCheck}
 use Rattle.line.specs.Frame.{frame, zerosOf, ticksOf}
 use Rattle.line.specs.Laws.Bits.{lowBits-fromLow, textBits-join, textBits-length}

@@ -1,19 +1,18 @@
 -- Laws of zero insertion, over any stream of bits: joining, lengths, the way back, and no six ones
 -- in a row. Assumes nothing.
-use mathlib.Core.Path.{_≡_, refl, sym, ap, _∙_}
+use mathlib.Core.Path.{_≡_, refl, ap}
 use mathlib.Core.Logic.{_≢_}
 use mathlib.Core.Bool.{Bool, true, false, not}
 use mathlib.Core.List.{List, [], _∷_, _++_, append-assoc}
-use Prim.Native.Nat.{ℕ, zero, suc, _+_, _*_, _≤_, _<_}
+use Prim.Native.Nat.{ℕ, suc, _+_, _*_, _≤_, _<_}
 use native.Mathlib.Omega.{arith}
-use lib.Dec.{eqb, ltb}
 use lib.ListN.{length, length-append, replicate}
-use borrow.Author.Tests.{ne-eqb, eq-eqb, le-ltb, lt-ltb}
+use borrow.Author.Tests.{ne-eqb, le-ltb, lt-ltb}
 use Rattle.common.specs.Choice.{if_then_else_}
 use Rattle.common.specs.Tools.{ltb-elim}
 use Rattle.line.specs.Bits.{oneIf}
 use Rattle.line.specs.Insertion.{owes, runAfter, counted, zeroIf, stuff, zeros, runOver}
-use Rattle.line.specs.Insertion.{seen, kept, unstuff}
+use Rattle.line.specs.Insertion.{seen, unstuff}
 
 pub stuff-join : (run : ℕ) (xs ys : List Bool)
     → stuff run (xs ++ ys) ≡ stuff run xs ++ stuff (runOver run xs) ys

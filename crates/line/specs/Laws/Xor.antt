@@ -4,7 +4,7 @@ use mathlib.Core.Path.{_≡_, refl, sym, ap, ap₂, _∙_}
 use mathlib.Core.Bool.{Bool, true, false, not, Bool·beq}
 use Prim.Native.Nat.{ℕ, _*_, _+_, _/_, _%_, _<_}
 use native.Mathlib.Nat.{mod-lt, add-zero, zero-lt-suc}
-use lib.Dec.{T, eqb}
+use lib.Dec.{eqb}
 use lib.Bits.{bitXor, differ, xor-step, xor-mod, xor-shr, xor-comm, xor-block}
 use lib.Arith.{bin-ind}
 use Rattle.common.specs.Tools.{two-cases, both-of, both-of→, beq→}

@@ -2,20 +2,16 @@
 -- sources in service, since WR0's command 7, through A, ends the highest of both channels.
 -- Acknowledge and RETI change nothing else either. Assumes nothing.
 use mathlib.Core.Path.{_≡_, refl}
-use mathlib.Core.Bool.{true, false, _||_}
-use Prim.Native.Nat.{ℕ}
-use lib.Dec.{leb}
-use Rattle.common.specs.Tools.{if-elim, bool-or}
+use Rattle.common.specs.Tools.{bool-or}
 use Rattle.interrupts.specs.declared.Sources.{Sources}
 use Rattle.queue.specs.Queue.{waits}
 use Rattle.channel.specs.declared.Channel.{Channel}
-use Rattle.channel.specs.declared.Answered.{Answered}
 use Rattle.channel.specs.Channel.{withService, liveOf}
 use Rattle.channel.specs.Control.{rr0, rr1Now}
 use Rattle.channel.specs.Events.{dataRead, transmitTick}
 use Rattle.chip.specs.declared.Chip.{Chip}
 use Rattle.chip.specs.Interrupts.{acknowledge, reti}
-use Rattle.chip.specs.Chip.{inA, inB, controlWriteA, controlWrite, controlReadCall}
+use Rattle.chip.specs.Chip.{controlWriteA, controlWrite, controlReadCall}
 use Rattle.chip.specs.Chip.{dataWriteCall, dataReadCall, transmitCall, receiveCall, linesCall}
 use Rattle.chip.specs.Event.{Event, Acknowledge, Reti, step}
 use Rattle.promises.specs.Isolation.{On, control-write, control-read, data-write, data-read}

@@ -1,6 +1,6 @@
 -- A tick in SDLC, in Monosync and in Bisync, and that what it hands over is plain. Assumes nothing.
 use mathlib.Core.Path.{_≡_, refl, ap, _∙_}
-use mathlib.Core.Bool.{Bool, true, false}
+use mathlib.Core.Bool.{Bool, true}
 use Rattle.common.specs.Mode.{inBlocks}
 use Rattle.common.specs.Tools.{if-elim, void}
 use Rattle.common.specs.declared.Mode.{Mode}

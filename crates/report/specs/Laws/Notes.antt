@@ -1,15 +1,15 @@
 -- A loop that goes from note to note of a list in which the scan found so many. Assumes nothing.
 use mathlib.Core.Path.{_≡_, refl, sym, ap, _∙_}
 use mathlib.Core.Bool.{true}
-use mathlib.Core.List.{List, [], _∷_}
-use Prim.Native.Nat.{ℕ, zero, suc, _+_, _-_, _≤_, _<_}
+use mathlib.Core.List.{List}
+use Prim.Native.Nat.{ℕ, _+_, _-_, _≤_, _<_}
 use native.Mathlib.Omega.{arith}
 use lib.ListN.{length}
 use Rattle.common.specs.declared.Refusal.{Refusal}
 use Rattle.line.specs.Line.{noteFits}
 use Rattle.head.specs.declared.Head.{Head}
-use Rattle.head.specs.declared.Head.the-variants.{End, Note, Bad}
-use Rattle.notes.specs.declared.Scanned.the-variants.{Notes, Refused}
+use Rattle.head.specs.declared.Head.the-variants.{End, Note}
+use Rattle.notes.specs.declared.Scanned.the-variants.{Notes}
 use Rattle.head.specs.NoteHead.{lengthBytes, lengthAt, textAt, headOf, noteAt}
 use Rattle.notes.specs.NoteList.{Reading, whole, refuses, inFront, readHead, restFrom, scanned}
 use Rattle.notes.specs.NoteList.{walk}

@@ -1,15 +1,12 @@
 -- The ticks of a note and of a list: the zero count gives the one, a walk over the notes the other.
 -- Assumes nothing.
-use mathlib.Core.Path.{_≡_, refl, sym, ap, _∙_}
-use mathlib.Core.Bool.{Bool, true, false, not, _&&_}
-use mathlib.Core.List.{List, [], _∷_, foldl}
-use Prim.Native.Nat.{ℕ, _+_, _-_, _*_, _≤_}
+use mathlib.Core.Path.{_≡_, refl, sym, ap}
+use mathlib.Core.Bool.{true}
+use mathlib.Core.List.{List, foldl}
+use Prim.Native.Nat.{ℕ, _-_, _≤_}
 use native.Mathlib.Omega.{arith}
-use lib.Dec.{eqb, leb}
 use lib.ListN.{length}
-use borrow.Author.Tests.{leb-true}
-use Rattle.common.specs.Choice.{if_then_else_}
-use Rattle.common.specs.Tools.{eqb-elim, bool-or, void}
+use Rattle.common.specs.Tools.{bool-or}
 use Rattle.common.specs.declared.Refusal.{Refusal}
 use Rattle.common.specs.declared.Refusal.the-variants.{NoteLength}
 use Rattle.zeros.specs.declared.Counted.the-variants as counted

@@ -7,7 +7,7 @@ use lib.Dec.{eqb, ltb}
 use borrow.Author.Tests.{ltb-true}
 use Rattle.common.specs.Choice.{if_then_else_}
 use Rattle.common.specs.Tools.{if-elim, by-test, ltb-elim}
-use Rattle.line.specs.Bits.{odd, oneIf}
+use Rattle.line.specs.Bits.{odd}
 use Rattle.line.specs.Check.{top, complement}
 use Rattle.line.specs.Insertion.{runAfter}
 use Rattle.line.specs.declared.Insertion.{Insertion}

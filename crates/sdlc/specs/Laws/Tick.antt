@@ -1,24 +1,23 @@
 -- One equation for each clause of a tick and of an abort: later theorems go by these and never open
 -- `tickSdlc`. Assumes nothing.
 use mathlib.Core.Path.{_≡_, refl}
-use mathlib.Core.Bool.{Bool, true, false, not, _&&_}
-use mathlib.Core.List.{List, [], _∷_}
-use Prim.Native.Nat.{ℕ, zero, suc, _-_, _/_}
+use mathlib.Core.Bool.{true, false, not, _&&_}
+use mathlib.Core.List.{[], _∷_}
+use Prim.Native.Nat.{ℕ, suc, _-_, _/_}
 use native.Mathlib.Omega.{arith}
-use lib.Dec.{eqb, eqb·suc-zero}
+use lib.Dec.{eqb·suc-zero}
 use Rattle.common.specs.Tools.{bool-or}
 use Rattle.line.specs.Bits.{odd}
 use Rattle.line.specs.Check.{top, shifted}
 use Rattle.line.specs.Frame.{flagBits}
 use Rattle.line.specs.Insertion.{counted}
-use Rattle.line.specs.declared.Insertion.{Insertion}
 use Rattle.shared.specs.declared.Shared.{Shared}
 use Rattle.shared.specs.Shared.{latched}
 use Rattle.sdlc.specs.declared.LineUnit.{LineUnit}
 use Rattle.sdlc.specs.declared.LineUnit.the-variants.{Mark, Flag, Byte, Check, Abort}
 use Rattle.sdlc.specs.declared.Framing.{Framing}
 use Rattle.sdlc.specs.declared.Framer.{Framer}
-use Rattle.sdlc.specs.Sending.{insertion, notCounted, paid, framer, sentBit}
+use Rattle.sdlc.specs.Sending.{insertion, notCounted, framer, sentBit}
 use Rattle.sdlc.specs.Sending.{startMark, startFlag, startByte, startCheck, following, next}
 use Rattle.sdlc.specs.Sending.{noBitLeft, flagBit, going, tickSdlc, aborting, cutShort}
 use Rattle.sdlc.specs.Sending.{abortedBy}

@@ -1,7 +1,7 @@
 -- A tick in each mode, and Send Abort: the modes' own laws speak of what happens within. Assumes
 -- nothing.
 use mathlib.Core.Path.{_≡_, refl}
-use mathlib.Core.Bool.{Bool, true, false}
+use mathlib.Core.Bool.{true, false}
 use Rattle.common.specs.Mode.{inSdlc, inBlocks}
 use Rattle.common.specs.Tools.{void}
 use Rattle.common.specs.declared.Mode.{Mode}

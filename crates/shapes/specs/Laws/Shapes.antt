@@ -1,18 +1,17 @@
 -- Laws of the shapes: they exclude each other, a shaped byte sends just its Ds, and every byte of
 -- 256 is decided. Assumes nothing.
 use mathlib.Core.Path.{_≡_, refl, sym, ap, _∙_}
-use mathlib.Core.Bool.{Bool, true, false}
+use mathlib.Core.Bool.{Bool}
 use mathlib.Core.List.{List, [], _∷_, _++_, map}
 use Prim.Native.Nat.{ℕ, zero, suc, _+_, _*_, _/_, _%_, _^_, _≤_, _<_}
 use native.Mathlib.Omega.{arith}
 use native.Mathlib.Nat.{mul-assoc, pow-suc}
 use lib.Dec.{T, eqb, leb, eqb→eq}
 use lib.ListN.{replicate}
-use borrow.Author.Tests.{leb-true}
 use Rattle.common.specs.Choice.{if_then_else_}
 use Rattle.common.specs.Tools.{if-elim, below, below→}
 use Rattle.line.specs.Bits.{odd, lowBits}
-use Rattle.shapes.specs.Shapes.{Shape, shape, has, shapes, lowFive, countBy, shapeBits}
+use Rattle.shapes.specs.Shapes.{Shape, shape, has, shapes, shapeBits}
 
 -- "The shapes exclude each other": no byte has two
 

@@ -1,6 +1,6 @@
 -- A channel reset gives what a history gives, and every event of a channel keeps it. Assumes
 -- nothing.
-use mathlib.Core.Bool.{Bool, true, false, _&&_}
+use mathlib.Core.Bool.{Bool, _&&_}
 use Prim.Native.Nat.{ℕ, _≤_}
 use native.Mathlib.Omega.{arith}
 use lib.Dec.{eqb}

@@ -1,5 +1,5 @@
 -- A hard reset gives what a history gives, and every event keeps it. Assumes nothing.
-use mathlib.Core.Bool.{Bool, true, false, _||_}
+use mathlib.Core.Bool.{false, _||_}
 use Prim.Native.Nat.{ℕ}
 use lib.Dec.{eqb, leb}
 use Rattle.common.specs.Tools.{if-elim}

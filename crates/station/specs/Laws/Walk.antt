@@ -11,7 +11,6 @@ use lib.Seq.{sets, length-sets}
 use borrow.Author.Tests.{leb-true, ne-eqb}
 use Rattle.common.specs.Choice.{if_then_else_}
 use Rattle.common.specs.declared.Refusal.{Refusal}
-use Rattle.line.specs.Frame.{zerosOf, ticksOf}
 use Rattle.flags.specs.declared.Between.{Between}
 use Rattle.flags.specs.Flags.{withNote, inAll, totalTicks}
 use Rattle.head.specs.NoteHead.{noteAt}

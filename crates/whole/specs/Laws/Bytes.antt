@@ -2,7 +2,7 @@
 -- nothing.
 use mathlib.Core.Path.{_≡_, refl, sym, ap, ap₂, _∙_}
 use mathlib.Core.Bool.{Bool}
-use mathlib.Core.List.{List, [], _∷_, _++_, append-nil}
+use mathlib.Core.List.{List, [], _∷_, _++_}
 use Prim.Native.Nat.{ℕ, zero, suc, _+_, _*_, _<_}
 use native.Mathlib.Omega.{arith}
 use lib.Dec.{T, eqb, eqb→eq}
@@ -12,7 +12,7 @@ use Rattle.common.specs.Tools.{below, below→}
 use Rattle.line.specs.Bits.{lowBits, textBits}
 use Rattle.line.specs.Check.{sdlc, ones, checkOver, checkBits, remainder}
 use Rattle.line.specs.Frame.{noteBits, checkOf, contentOf}
-use Rattle.line.specs.Laws.Bits.{lowBits-fromLow, fromLow-lt, textBits-join}
+use Rattle.line.specs.Laws.Bits.{fromLow-lt, textBits-join}
 use Rattle.line.specs.Bits.{fromLow, Below, below-none as none, below-more as more}
 use Rattle.line.specs.Laws.Check.{checkBits-length}
 use Rattle.line.specs.Laws.Frame.{content-good, byte-of, checkBytes-bits}

@@ -2,7 +2,7 @@
 -- Seven ones leave the SDLC receiver deaf, a deaf one hands over nothing up to and including the
 -- next flag, and an end mark comes at a flag alone: so no end is told of a frame that was aborted.
 -- For any receiver, address search on or off. Assumes nothing.
-use mathlib.Core.Path.{_≡_, refl, sym, ap, ap₂, _∙_, subst}
+use mathlib.Core.Path.{_≡_, refl, sym, ap, ap₂, _∙_}
 use mathlib.Core.Bool.{Bool, true, false, not, _&&_, _||_}
 use mathlib.Core.List.{List, [], _∷_, _++_}
 use Prim.Native.Nat.{ℕ, zero, suc, _+_, _≤_, _<_}
@@ -13,7 +13,6 @@ use borrow.Author.Tests.{ne-eqb, lt-ltb, ltb-true, ltb-false}
 use Rattle.common.specs.Choice.{if_then_else_}
 use Rattle.common.specs.Tools.{ltb-elim, by-test, if-elim, void, both-left, both-right}
 use Rattle.common.specs.Tools.{refused-test}
-use Rattle.line.specs.Bits.{oneIf}
 use Rattle.line.specs.Insertion.{zeroIf, stuff}
 use Rattle.entry.specs.declared.Entry.{Entry}
 use Rattle.entry.specs.Entry.{plainEntry}

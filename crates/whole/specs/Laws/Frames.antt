@@ -27,7 +27,7 @@ use Rattle.sdlc.specs.declared.Content.{Content}
 use Rattle.sdlc.specs.declared.Listener.{Listener}
 use Rattle.sdlc.specs.declared.Listened.{Listened}
 use Rattle.sdlc.specs.Hearing.{chars, noChars, emptyDelay, fullDelay, content, heardSo, listener}
-use Rattle.sdlc.specs.Hearing.{listened, unheard, withOnes, shiftIn, lastBit, accept, push, closing}
+use Rattle.sdlc.specs.Hearing.{listened, unheard, shiftIn, lastBit, accept, push, closing}
 use Rattle.sdlc.specs.Hearing.{pastFlag, one, zeroBit, hearSdlc}
 use Rattle.whole.specs.Heard.{handed, Final, final, before, hearAll, Fresh, in-hunt}
 use Rattle.whole.specs.Heard.{past-flag, lead}

@@ -1,7 +1,7 @@
 -- The underrun latch: a tick never lowers it, the tick that finds the line dry sets it, and while
 -- it is clear a tick leaves an opening flag or a byte, or sets it. Assumes nothing.
 use mathlib.Core.Path.{_≡_, refl, ap, _∙_}
-use mathlib.Core.Bool.{Bool, true, false, not, _&&_}
+use mathlib.Core.Bool.{true, false, not, _&&_}
 use Prim.Native.Nat.{ℕ}
 use lib.Dec.{eqb}
 use Rattle.common.specs.Tools.{if-elim, void}
