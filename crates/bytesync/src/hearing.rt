@@ -7,7 +7,7 @@ use crate::Syncs;
 use entry::Entry;
 use line::check_byte;
 ghost use mathlib.Core.Path.{_≡_};
-ghost use Rattle.bytesync.specs.Hearing.{reception, matched, unmatched, shiftIn, lastEight, counted, syncSeen, hunting};
+ghost use Rattle.bytesync.specs.Hearing.{reception, unmatched, shiftIn, lastEight, counted, syncSeen, hunting};
 ghost use Rattle.bytesync.specs.Hearing.{expected, leads, entering, arrived, assembling, hearBlock};
 
 // A bit enters from above.

@@ -7,7 +7,7 @@ use crate::inside::less_one;
 use shared::Shared;
 ghost use mathlib.Core.Path.{_≡_};
 ghost use Rattle.bytesync.specs.Syncs.{pair};
-ghost use Rattle.bytesync.specs.Sending.{synced, sentBit, startMark, syncSent, syncLeft, startSync, startByte, startCheck};
+ghost use Rattle.bytesync.specs.Sending.{sentBit, startMark, syncSent, syncLeft, startSync, startByte, startCheck};
 ghost use Rattle.bytesync.specs.Sending.{byteOrSync, underrun, following, next, tickBlock};
 ghost use Rattle.bytesync.specs.Within.{unitLeft, goingOn};
 

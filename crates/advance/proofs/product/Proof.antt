@@ -1,9 +1,9 @@
 -- `advance::product` meets its contract: the sum and the product of what is left is the whole product. Assumes nothing.
-use mathlib.Core.Path.{_≡_, refl, sym, ap, _∙_}
+use mathlib.Core.Path.{_≡_, sym, ap, _∙_}
 use Prim.Native.Nat.{_<_}
 use native.Mathlib.Omega.{arith}
 use lib.Bits.{bitXor, xor-zero-l, xor-zero-r}
-use Rattle.advance.specs.Advance.{times, product}
+use Rattle.advance.specs.Advance.{product}
 use Rattle.advance.specs.Laws.Advance.{product-none, product-step}
 use Rattle.advance.proofs.product.Statement.{statement}
 use Rattle.advance.proofs.product.Tie as tie

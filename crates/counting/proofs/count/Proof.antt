@@ -10,7 +10,6 @@ use lib.ListN.{length, getD}
 use denote.Ref.{now}
 use Rattle.line.specs.Bits.{lowBits, textBits}
 use Rattle.line.specs.Check.{ones}
-use Rattle.line.specs.Insertion.{zeros}
 use Rattle.line.specs.Frame.{contentOf}
 use Rattle.line.specs.Laws.Frame.{content-is, zeros-few}
 use Rattle.mirror.specs.Mirror.{mirroredByte}

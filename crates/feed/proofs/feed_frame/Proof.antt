@@ -1,6 +1,5 @@
 -- `feed::feed_frame` meets its contract. Assumes nothing.
-use mathlib.Core.Path.{_≡_, refl, sym, ap, _∙_}
-use mathlib.Core.Bool.{not, _&&_}
+use mathlib.Core.Path.{sym, ap, _∙_}
 use lib.Dec.{ltb}
 use lib.ListN.{length}
 use denote.Ref.{now}

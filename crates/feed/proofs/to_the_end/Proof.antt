@@ -1,15 +1,13 @@
 -- `feed::to_the_end` meets its contract: what is to come is always the rest of the frame, and leads where
 -- the whole leads. Assumes nothing.
-use mathlib.Core.Path.{_≡_, refl, sym, ap, subst, _∙_}
-use Prim.Native.Nat.{ℕ, _+_, _-_, _≤_}
+use mathlib.Core.Path.{sym, _∙_}
+use Prim.Native.Nat.{_-_}
 use native.Mathlib.Omega.{arith}
 use lib.ListN.{length}
 use denote.Ref.{now}
 use Rattle.whole.specs.Come.{toCome}
-use Rattle.feed.specs.declared.Run.{Run}
-use Rattle.feed.specs.declared.Place.{Place}
 use Rattle.feed.specs.Feeding.{afterTicks, toTheEnd}
-use Rattle.feed.specs.Turns.{supplyAt, turn}
+use Rattle.feed.specs.Turns.{turn}
 use Rattle.feed.specs.Laws.Turns.{Going, start, gone, left-over, turns}
 use Rattle.feed.proofs.to_the_end.Statement.{statement}
 use Rattle.feed.proofs.to_the_end.Tie as tie

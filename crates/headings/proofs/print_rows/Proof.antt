@@ -2,7 +2,6 @@
 use lib.ListN.{length}
 use native.Mathlib.Omega.{arith}
 use Prim.Native.Nat.{_-_, _≤_}
-use mathlib.Core.Path.{_≡_}
 use borrow.Author.Needs.{needs}
 use Rattle.headings.proofs.print_rows.Statement.{statement}
 use Rattle.headings.proofs.print_rows.Tie as tie

@@ -1,5 +1,5 @@
 -- `joining::joined` meets its contract: the law that checks join. Assumes nothing.
-use mathlib.Core.Path.{_≡_, sym, ap, _∙_}
+use mathlib.Core.Path.{ap, _∙_}
 use lib.Bits.{bitXor}
 use Rattle.joining.specs.Join.{joinedBy}
 use Rattle.joining.specs.Laws.Join.{checks-join}

@@ -6,7 +6,6 @@ use Prim.Native.Nat.{_-_}
 use borrow.Author.Tests.{le-ltb, lt-ltb}
 use lib.Dec.{ltb}
 use Rattle.common.specs.Tools.{ltb-elim}
-use borrow.Author.Needs.{needs}
 use Rattle.pen.proofs.lacks_cells.Statement.{statement}
 use Rattle.pen.proofs.lacks_cells.Tie as tie
 

@@ -1,5 +1,5 @@
 -- `report::page_ticks` meets its contract. Assumes nothing.
-use mathlib.Core.Path.{_≡_, refl, sym, ap, _∙_}
+use mathlib.Core.Path.{sym, _∙_}
 use denote.Ref.{now}
 use Rattle.notes.specs.Laws.Reading.{scanned-refuses}
 use borrow.Author.Needs.{needs}

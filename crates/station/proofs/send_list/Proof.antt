@@ -1,6 +1,6 @@
 -- `station::send_list` meets its contract: what has been sent and told so far, walked over the rest of the
 -- list, is always the whole report (specs/Laws/Walk.antt). Assumes nothing.
-use mathlib.Core.Path.{_≡_, ap, _∙_}
+use mathlib.Core.Path.{ap, _∙_}
 use mathlib.Core.List.{List}
 use Prim.Native.Nat.{ℕ, _+_, _-_, _*_}
 use native.Mathlib.Omega.{arith}
@@ -15,7 +15,7 @@ use Rattle.listline.specs.ListLine.{beforeNote}
 use Rattle.station.specs.declared.walk.Walk.{Walk}
 use Rattle.station.specs.Fed.{feeds}
 use Rattle.station.specs.Station.{listSent}
-use Rattle.station.specs.Walk.{atFirst, walkedOn, listedBy}
+use Rattle.station.specs.Walk.{walkedOn, listedBy}
 use Rattle.station.specs.Laws.Walk.{WalkedList, Loop, loop-starts, loop-turns, loop-ends}
 use Rattle.station.specs.Laws.Walk.{next, room, notes-small, at-small, sum-small}
 use Rattle.station.proofs.send_list.Statement.{statement}

@@ -1,7 +1,7 @@
 -- `tabled::put_content` meets its contract: the bytes that remain, put down from the press on, make
 -- what all of them made from the first place; two by two, and then one by one. Assumes nothing.
 use native.Mathlib.Omega.{arith}
-use mathlib.Core.Path.{_≡_, refl, sym, ap, _∙_}
+use mathlib.Core.Path.{_≡_, refl, ap, _∙_}
 use mathlib.Core.Bool.{Bool, true, _&&_}
 use borrow.Author.Tests.{ltb-true}
 use Prim.Native.Nat.{ℕ, _+_, _-_, _≤_, _<_}

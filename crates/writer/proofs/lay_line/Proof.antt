@@ -3,7 +3,6 @@
 use native.Mathlib.Omega.{arith}
 use mathlib.Core.Path.{_∙_}
 use denote.Ref.{now}
-use Rattle.line.specs.Laws.Frame.{ticks-are}
 use Rattle.layout.specs.Laws.{end-is, frame-fits}
 use borrow.Author.Needs.{needs}
 use Rattle.writer.proofs.lay_line.Statement.{statement}

@@ -1,14 +1,14 @@
 -- `writer::write_line` meets its contract: a refusal leaves the buffer alone, and the part that was lent comes back with the frame at its start.
 -- Assumes nothing.
 use native.Mathlib.Omega.{arith}
-use mathlib.Core.Path.{_≡_, sym, ap, _∙_}
-use lib.ListN.{length, length-take, length-drop}
+use mathlib.Core.Path.{sym, ap, _∙_}
+use lib.ListN.{length-take, length-drop}
 use denote.Ref.{now}
 use Rattle.line.specs.Bits.{cells}
 use Rattle.line.specs.Frame.{frame, ticksOf}
 use Rattle.zeros.specs.declared.Counted.{Counted}
 use Rattle.zeros.specs.declared.Counted.the-variants.{Zeros}
-use Rattle.writer.specs.Writer.{writeOf, bufferAfter}
+use Rattle.writer.specs.Writer.{bufferAfter}
 use Rattle.writer.proofs.Laws.{unfit-refused, test-said, short-refused, room-counted, room-there, part-back}
 use borrow.Author.Needs.{needs}
 use Rattle.writer.proofs.write_line.Statement.{statement}

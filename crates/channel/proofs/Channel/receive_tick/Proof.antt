@@ -1,5 +1,5 @@
 -- `channel::Channel::receive_tick` meets its contract: a tick that leaves hunt and D7 is settled as it is. Assumes nothing.
-use mathlib.Core.Path.{_≡_, sym, ap, _∙_}
+use mathlib.Core.Path.{sym, ap, _∙_}
 use Rattle.channel.proofs.Branch.{tests}
 use Rattle.receiver.specs.declared.Heard.{Heard}
 use Rattle.receiver.specs.declared.Receiving.{Receiving}

@@ -1,5 +1,5 @@
 -- `channel::Channel::ticked` meets its contract: in SDLC the tick heeds SDLC's settings alone. Assumes nothing.
-use mathlib.Core.Path.{_≡_, sym, ap, ap₂, _∙_}
+use mathlib.Core.Path.{sym, ap, ap₂, _∙_}
 use mathlib.Core.Bool.{Bool}
 use Rattle.common.specs.Mode.{inSdlc}
 use Rattle.sdlc.specs.declared.Framing.{Framing}

@@ -1,5 +1,5 @@
 -- `channel::Channel::transmit_tick` meets its contract: a tick that leaves the latch is settled as it is. Assumes nothing.
-use mathlib.Core.Path.{_≡_, sym, ap, ap₂, _∙_}
+use mathlib.Core.Path.{ap, ap₂, _∙_}
 use Prim.Native.Nat.{ℕ}
 use Rattle.channel.proofs.Branch.{tests}
 use Rattle.channel.specs.declared.Answer.the-variants.{Gave}

@@ -1,5 +1,4 @@
 -- `feed::bits_on` meets its contract. Assumes nothing.
-use Rattle.feed.proofs.Branch.{tests}
 use borrow.Author.Needs.{needs}
 use Rattle.feed.proofs.through.bits_on.Statement.{statement}
 use Rattle.feed.proofs.through.bits_on.Tie as tie

@@ -1,11 +1,10 @@
 -- `feed::through` meets its contract: the bits now, gone through, are always those of the beginning
 -- gone through. Assumes nothing.
 use mathlib.Core.Path.{_≡_, refl, sym, ap, subst, _∙_}
-use Prim.Native.Nat.{ℕ, _+_, _-_, _*_, _≤_}
+use Prim.Native.Nat.{_+_, _-_, _*_, _≤_}
 use native.Mathlib.Omega.{arith}
 use Rattle.feed.specs.declared.Bits.{Bits}
-use Rattle.feed.specs.declared.Run.{Run}
-use Rattle.feed.specs.Turns.{bits, bitsOn, bitsThrough, carried, through}
+use Rattle.feed.specs.Turns.{bits, bitsThrough, carried, through}
 use Rattle.feed.specs.Laws.Turns.{bits-step, bits-none, bits-few}
 use borrow.Author.Needs.{needs}
 use Rattle.feed.proofs.through.through.Statement.{statement}

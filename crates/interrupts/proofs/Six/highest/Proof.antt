@@ -1,6 +1,5 @@
 use Rattle.interrupts.proofs.Branch.{tests}
 use Rattle.interrupts.specs.Interrupts.{highest}
-use borrow.Author.Needs.{needs}
 use Rattle.interrupts.proofs.Six.highest.Statement.{statement}
 use Rattle.interrupts.proofs.Six.highest.Tie as tie
 

@@ -1,5 +1,4 @@
 use Rattle.interrupts.proofs.Branch.{tests}
-use borrow.Author.Needs.{needs}
 use Rattle.interrupts.proofs.Sources.with_source.Statement.{statement}
 use Rattle.interrupts.proofs.Sources.with_source.Tie as tie
 

@@ -1,5 +1,5 @@
 -- `station::walk::Walk::listed` meets its contract. Assumes nothing.
-use mathlib.Core.Path.{refl, ap}
+use mathlib.Core.Path.{ap}
 use Rattle.told.specs.declared.Listed.the-variants.{All}
 use borrow.Author.Needs.{needs}
 use Rattle.station.proofs.walk.Walk.listed.Statement.{statement}
