@@ -18,6 +18,7 @@ use settings::preset_in;
 use settings::transmit_on;
 ghost use mathlib.Core.Path.{_≡_};
 ghost use Rattle.common.specs.Mode.{synchronous, sameMode};
+ghost use Rattle.channel.specs.Channel.{withPointer, settled};
 ghost use Rattle.channel.specs.Control.{commanded, preset, commandStep, presetStep, writeWr0, setWr1, setWr2, setWr3, inMode, setWr4, setRegister, controlWritten};
 
 // The two modes are one.
@@ -185,6 +186,15 @@ fn set_register(mut c: Channel, w: Side, p: u8, v: u8) -> Channel
     }
 }
 
+// A register is written, the status rule run and the pointer used.
+fn write_register(c: Channel, w: Side, v: u8) -> Channel
+    ensures { λ r. ⌜ r ≡ withPointer (settled c (setRegister c w (c .pointer) v)) 0 ⌝ }
+{
+    let mut d = set_register(c, w, c.pointer, v).settled(c);
+    d.pointer = 0;
+    d
+}
+
 // A control write.
 pub fn control_write(c: Channel, w: Side, v: u8) -> Answered
     ensures { λ r. ⌜ r ≡ controlWritten c w v ⌝ }
@@ -201,10 +211,8 @@ pub fn control_write(c: Channel, w: Side, v: u8) -> Answered
             channel: c,
         };
     }
-    let mut d = set_register(c, w, c.pointer, v).settled(c);
-    d.pointer = 0;
     Answered {
         answer: Answer::Done,
-        channel: d,
+        channel: write_register(c, w, v),
     }
 }

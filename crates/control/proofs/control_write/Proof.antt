@@ -18,23 +18,12 @@ returns-2 : tie.Need-returns-2
 unfolding controlWritten
 returns-2 c = simp (tests, c .if2 .taken, c .before .before .before .if1 .left, ← c .before .not-built .ensures)
 
-set-register-requires : tie.Need-set-register-requires
-set-register-requires c κs = tt
-
-settled-requires : tie.Need-settled-requires
-settled-requires c κs = tt
+write-register-requires : tie.Need-write-register-requires
+write-register-requires c κs = tt
 
 returns-3 : tie.Need-returns-3
 unfolding controlWritten
-returns-3 c =
-    simp (
-      tests,
-      c .settled .ensures,
-      c .before .before .if2 .left,
-      c .before .before .before .before .before .if1 .left,
-      ← c .before .set-register .ensures,
-      ← c .before .before .before .not-built .ensures,
-    )
+returns-3 c = simp (tests, c .write-register .ensures, c .before .if2 .left, c .before .before .before .before .if1 .left, ← c .before .before .not-built .ensures)
 
 pub control-write-spec : {M : Type 1} → statement M
 control-write-spec =
@@ -44,6 +33,5 @@ control-write-spec =
     returns
     not-built-requires
     returns-2
-    set-register-requires
-    settled-requires
+    write-register-requires
     returns-3)
