@@ -1,9 +1,8 @@
 // A list sent through the chip.
 use chip::Chip;
 use flags::Between;
-use items::Item;
 use items::Sheet;
-use station::Listed;
+use told::Listed;
 ghost use mathlib.Core.Path.{_≡_};
 ghost use lib.ListN.{length};
 
@@ -19,34 +18,22 @@ fn rows() -> [usize; ROWS]
     [UNTOUCHED; ROWS]
 }
 
-// How the notes of an item's list follow each other.
-fn between_of(t: Item) -> Between {
-    if t.kind == items::SHARED_LIST {
-        return Between::SharedFlag;
-    }
-    Between::usual()
+// Nobody asks for the chip behind a list.
+fn sent(c: Chip, list: &[u8], rows: &mut [usize], between: Between) -> Listed {
+    let o = station::send_list(c, list, rows, between);
+    o.listed
 }
 
-// A list gave what its item says.
-fn list_is(t: Item, l: Listed, rows: &[usize], wanted: &[u8]) -> bool {
-    t.is(l.number(), l.ticks())
-        & (l.notes() == items::two_bytes(t.y, t.z))
-        & items::cells_are(rows, wanted)
-}
-
-// A list through the chip gave what it must, with room for so many numbers of its rows as its item says.
-pub(crate) fn listed(c: Chip, s: Sheet, desk: &[u8]) -> bool {
+// 1 if a list through the chip gave what it must, with room for so many numbers of its rows as its item says.
+pub(crate) fn list_value(c: Chip, s: Sheet, desk: &[u8]) -> u8 {
     let mut space = rows();
     let rows: &mut [usize] = &mut space;
     let room = s.item.room(rows.len());
-    let l = {
-        let o = station::send_list(
-            c,
-            items::part(desk, 0, s.given),
-            &mut rows[0..room],
-            between_of(s.item),
-        );
-        o.listed
-    };
-    list_is(s.item, l, rows, items::part(desk, s.given, s.wanted))
+    let l = sent(
+        c,
+        items::part(desk, 0, s.given),
+        &mut rows[0..room],
+        calls::between_of(s.item),
+    );
+    calls::list_value(s, l, rows, desk)
 }

@@ -2,3 +2,4 @@ pub mod Item
 pub mod Desk
 pub mod Sheet
 pub mod Cells
+pub mod Lines
