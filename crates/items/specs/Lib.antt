@@ -3,3 +3,4 @@ pub mod Desk
 pub mod Sheet
 pub mod Cells
 pub mod Lines
+pub mod Laws

@@ -11,13 +11,12 @@ use crate::desk::lay_times;
 pub use crate::desk::part;
 pub use crate::lines::ended;
 use crate::lines::tell;
-ghost use mathlib.Core.Logic.{_≢_};
 ghost use mathlib.Core.Path.{_≡_};
 ghost use Prim.Native.Nat.{_-_, _≤_, _<_, min};
 ghost use Rattle.items.specs.Item.{twoBytes, byteFrom, threeAt, bytesBehind, stopItem};
 ghost use Rattle.items.specs.Item.{behindItem, itemAt, says, placeOf, roomOf, timesOf};
 ghost use Rattle.items.specs.Sheet.{startSheet, counted, rightBy, closed, judged, answered};
-ghost use Rattle.items.specs.Sheet.{withItem, dealtDesk, dealtSheet, itemsLeft};
+ghost use Rattle.items.specs.Sheet.{withItem, dealtDesk, dealtSheet};
 ghost use Rattle.items.specs.Lines.{told};
 
 // An item of eight bytes: its kind, three arguments, and what it must give, a refusal's number and a value of three bytes. Bytes may stand behind
@@ -344,7 +343,6 @@ pub fn next(s: Sheet, bytes: &[u8], desk: &mut [u8], out: &mut [u8], number: u8,
     ensures { λ r. ⌜ r ≡ dealtSheet (answered s number value (told s (now (bytes .entry)) (now (out .entry)) .end)) (now (bytes .entry)) (now (desk .entry)) ⌝ }
     ensures { λ r. ⌜ now (desk .exit) ≡ dealtDesk (answered s number value (told s (now (bytes .entry)) (now (out .entry)) .end)) (now (bytes .entry)) (now (desk .entry)) .cells ⌝ }
     ensures { λ r. ⌜ now (out .exit) ≡ told s (now (bytes .entry)) (now (out .entry)) .cells ⌝ }
-    ensures { λ r. ⌜ (s .item .kind ≢ 255 → itemsLeft (now (bytes .entry)) (r .item) < itemsLeft (now (bytes .entry)) (s .item)) ⌝ }
 {
     let told = tell(s, bytes, out);
     dealt(s.answered(number, value, told), bytes, desk)

@@ -3,11 +3,8 @@
 use borrow.Author.Needs.{needs}
 use mathlib.Core.Path.{ap, _∙_}
 use denote.Ref.{now}
-use Rattle.items.specs.declared.Item.{Item}
 use Rattle.items.specs.declared.Sheet.{Sheet}
-use Rattle.items.specs.Item.{itemAt}
 use Rattle.items.specs.Sheet.{answered, dealtDesk, dealtSheet}
-use Rattle.items.proofs.Laws.{items-less, answered-item, dealt-item}
 use Rattle.items.proofs.next.Statement.{statement}
 use Rattle.items.proofs.next.Tie as tie
 
@@ -34,16 +31,9 @@ returns c =
     let tell = c .before .before .before .before .before .before .before .tell .ensures in
     let after = c .before .before .before .before .answered .ensures
     ∙ ap (answered (a .s) (a .number) (a .value)) (tell .0) in
-    let dealt = c .before .before .dealt .ensures in
-    let same = ap (λ (x : Sheet). x .item) after
-    ∙ answered-item (a .s) (a .number) (a .value) _ in
-    let item = ap (λ (x : Sheet). x .item) (dealt .0) ∙ dealt-item _ bytes desk
-    ∙ ap (λ (x : Item). itemAt bytes (x .behind)) same in (
+    let dealt = c .before .before .dealt .ensures in (
       dealt .0 ∙ ap (λ (x : Sheet). dealtSheet x bytes desk) after,
-      (
-        dealt .1 ∙ ap (λ (x : Sheet). dealtDesk x bytes desk .cells) after,
-        (tell .1, λ h. rw item (items-less bytes (a .s .item) h)),
-      ),
+      (dealt .1 ∙ ap (λ (x : Sheet). dealtDesk x bytes desk .cells) after, tell .1),
     )
 
 pub next-spec : {M : Type 1} → statement M

@@ -1,0 +1,78 @@
+// Known answers played on a chip, item by item, and what is told of them. Assumes nothing.
+mod list;
+
+use crate::list::list_value;
+use channel::Answer;
+use chip::Chip;
+use chip::Outcome;
+use items::Sheet;
+ghost use mathlib.Core.Path.{_≡_};
+ghost use Rattle.channel.specs.declared.Answer.the-variants.{Done};
+ghost use Rattle.chip.specs.Chip.{hardReset};
+ghost use Rattle.playing.specs.Playing.{otherValue, outcome, turned, desk, played, toldOf};
+
+// Room for the bytes of a call and those that it must leave.
+const DESK: usize = 65600;
+
+fn desk() -> [u8; DESK]
+    ensures { λ r. ⌜ r ≡ desk ⌝ }
+{
+    [0; DESK]
+}
+
+// What a call other than an event gives.
+fn value_of(c: Chip, s: Sheet, desk: &[u8]) -> u8
+    ensures { λ r. ⌜ r ≡ otherValue c s (now (desk .entry)) ⌝ }
+{
+    if (s.item.kind == items::LIST) | (s.item.kind == items::SHARED_LIST) {
+        return list_value(c, s, desk);
+    }
+    calls::value_of(s, script::register(c, s.item.x, s.item.y), desk)
+}
+
+// What an event answers; of any other item the value of its call, and the chip as it is: no answer asks for the chip behind a list.
+fn turn(c: Chip, s: Sheet, desk: &[u8]) -> Outcome
+    ensures { λ r. ⌜ r ≡ turned c s (now (desk .entry)) ⌝ }
+{
+    if s.item.kind < items::REGISTER {
+        return script::step(c, s.item.kind, s.item.x, s.item.y, s.item.z);
+    }
+    Outcome {
+        answer: Answer::Gave(value_of(c, s, desk)),
+        chip: c,
+    }
+}
+
+fn start() -> Outcome
+    ensures { λ r. ⌜ r ≡ outcome Done hardReset ⌝ }
+{
+    Outcome {
+        answer: Answer::Done,
+        chip: Chip::reset(),
+    }
+}
+
+// All items are played, one after another.
+fn play_all(input: &[u8], desk: &mut [u8], out: &mut [u8]) -> Sheet
+    ensures { λ r. ⌜ r ≡ played (now (input .entry)) (now (desk .entry)) (now (out .entry)) .sheet ⌝ }
+    ensures { λ r. ⌜ now (out .exit) ≡ played (now (input .entry)) (now (desk .entry)) (now (out .entry)) .out ⌝ }
+{
+    let mut o = start();
+    let mut s = items::first(input, desk);
+    while s.item.kind != items::STOP {
+        o = turn(o.chip, s, desk);
+        let w = o.answer;
+        s = items::next(s, input, desk, out, w.number(), w.value());
+    }
+    s
+}
+
+// So many bytes of items were read: all are played on a chip, and every line put into the lent part. Gives the place behind the last.
+pub fn play(input: &[u8], n: usize, out: &mut [u8]) -> usize
+    ensures { λ r. ⌜ r ≡ toldOf (now (input .entry)) n (now (out .entry)) .end ⌝ }
+    ensures { λ r. ⌜ now (out .exit) ≡ toldOf (now (input .entry)) n (now (out .entry)) .cells ⌝ }
+{
+    let mut desk = desk();
+    let s = play_all(items::all_read(input, n), &mut desk, out);
+    items::ended(s, out)
+}
