@@ -7,8 +7,8 @@ ghost use lib.ListN.{length};
 // Room for all items.
 const INPUT: usize = 262144;
 
-// Room for all lines.
-const LINES: usize = 65536;
+// Room for the bytes of a call and those that it must leave, and for all lines.
+const SPACE: usize = 65600;
 
 fn input() -> [u8; INPUT]
     ensures { λ r. ⌜ 262144 ≡ length r ⌝ }
@@ -16,21 +16,23 @@ fn input() -> [u8; INPUT]
     [0; INPUT]
 }
 
-fn lines() -> [u8; LINES]
-    ensures { λ r. ⌜ 65536 ≡ length r ⌝ }
+fn space() -> [u8; SPACE]
+    ensures { λ r. ⌜ 65600 ≡ length r ⌝ }
 {
-    [0; LINES]
+    [0; SPACE]
 }
 
 // The items are read and played, and all lines told at once.
-fn run(input: &mut [u8], lines: &mut [u8]) {
+fn run(input: &mut [u8], desk: &mut [u8], out: &mut [u8]) {
     let n = io::read_full(0, input);
-    let end = playing::play(input, n, lines);
-    io::write_all(1, items::part(lines, 0, end));
+    let s = playing::play(items::all_read(input, n), desk, out);
+    let end = items::ended(s, out);
+    io::write_all(1, items::part(out, 0, end));
 }
 
 fn main() {
     let mut input = input();
-    let mut lines = lines();
-    run(&mut input, &mut lines);
+    let mut desk = space();
+    let mut out = space();
+    run(&mut input, &mut desk, &mut out);
 }

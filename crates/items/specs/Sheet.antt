@@ -8,12 +8,20 @@ use Rattle.common.specs.Choice.{if_then_else_}
 use Rattle.items.specs.declared.Item.{Item}
 use Rattle.items.specs.declared.Sheet.{Sheet}
 use Rattle.items.specs.Item.{registerKind, nameKind, givenKind, wantedKind, stopKind}
-use Rattle.items.specs.Item.{stopItem, itemAt, says, timesOf}
+use Rattle.items.specs.Item.{emptyItem, itemAt, says, timesOf}
 use Rattle.items.specs.Desk.{Desk, desk, partOf, laidTimes}
 
+-- before the first item: no bytes for a call
 abbrev pub startSheet : Sheet
-startSheet =
-    record { item = stopItem; given = 0; wanted = 0; right = true; cases = 0; good = 0; told = 0 }
+startSheet = record {
+  item = emptyItem givenKind;
+  given = 0;
+  wanted = 0;
+  right = true;
+  cases = 0;
+  good = 0;
+  told = 0;
+}
 
 -- one more, up to five digits
 unfoldable pub counted : ℕ → Bool → ℕ

@@ -13,7 +13,7 @@ pub use crate::lines::ended;
 use crate::lines::tell;
 ghost use mathlib.Core.Path.{_≡_};
 ghost use Prim.Native.Nat.{_-_, _≤_, _<_, min};
-ghost use Rattle.items.specs.Item.{twoBytes, byteFrom, threeAt, bytesBehind, stopItem};
+ghost use Rattle.items.specs.Item.{twoBytes, byteFrom, threeAt, bytesBehind, emptyItem};
 ghost use Rattle.items.specs.Item.{behindItem, itemAt, says, placeOf, roomOf, timesOf};
 ghost use Rattle.items.specs.Sheet.{startSheet, counted, rightBy, closed, judged, answered};
 ghost use Rattle.items.specs.Sheet.{withItem, dealtDesk, dealtSheet};
@@ -128,11 +128,11 @@ fn bytes_behind(kind: u8, x: u8) -> usize
 }
 
 impl Item {
-    fn stop() -> Item
-        ensures { λ r. ⌜ r ≡ stopItem ⌝ }
+    fn empty(kind: u8) -> Item
+        ensures { λ r. ⌜ r ≡ emptyItem kind ⌝ }
     {
         Item {
-            kind: STOP,
+            kind,
             x: 0,
             y: 0,
             z: 0,
@@ -200,7 +200,7 @@ fn item_at(bytes: &[u8], at: usize) -> Item
     ensures { λ r. ⌜ r ≡ itemAt (now (bytes .entry)) at ⌝ }
 {
     if left_from(bytes.len(), at) < ITEM {
-        return Item::stop();
+        return Item::empty(STOP);
     }
     let kind = byte_from(bytes, at, 0);
     let x = byte_from(bytes, at, 1);
@@ -252,11 +252,12 @@ fn right_by(t: Item, number: u8, value: u8) -> bool
 }
 
 impl Sheet {
-    fn start() -> Sheet
+    // Before the first item: no bytes for a call.
+    pub fn start() -> Sheet
         ensures { λ r. ⌜ r ≡ startSheet ⌝ }
     {
         Sheet {
-            item: Item::stop(),
+            item: Item::empty(GIVEN),
             given: 0,
             wanted: 0,
             right: true,
@@ -328,14 +329,6 @@ fn dealt(s: Sheet, bytes: &[u8], desk: &mut [u8]) -> Sheet
     let t = item_at(bytes, s.item.behind);
     let end = lay_times(desk, s.wanted, part(bytes, t.start, t.behind), t.times());
     s.with_item(t, end)
-}
-
-// The first item.
-pub fn first(bytes: &[u8], desk: &mut [u8]) -> Sheet
-    ensures { λ r. ⌜ r ≡ dealtSheet startSheet (now (bytes .entry)) (now (desk .entry)) ⌝ }
-    ensures { λ r. ⌜ now (desk .exit) ≡ dealtDesk startSheet (now (bytes .entry)) (now (desk .entry)) .cells ⌝ }
-{
-    dealt(Sheet::start(), bytes, desk)
 }
 
 // An item was played and its call gave this: it is judged, a case that ends is told, and the next item is dealt.

@@ -1,9 +1,8 @@
--- Known answers played on a chip, item by item, and what is told of them. Assumes nothing.
+-- Known answers played on a chip, item by item. Assumes nothing.
 use mathlib.Core.Bool.{_||_}
 use mathlib.Core.List.{List}
 use Prim.Native.Nat.{ℕ, zero, suc}
 use lib.Dec.{eqb, ltb}
-use lib.ListN.{replicate}
 use Rattle.common.specs.Choice.{if_then_else_}
 use Rattle.channel.specs.declared.Answer.{Answer}
 use Rattle.channel.specs.declared.Answer.the-variants.{Gave}
@@ -16,9 +15,8 @@ use Rattle.script.specs.Shown.{registerOf}
 use Rattle.items.specs.declared.Item.{Item}
 use Rattle.items.specs.declared.Sheet.{Sheet}
 use Rattle.items.specs.Item.{registerKind, stopKind}
-use Rattle.items.specs.Desk.{Desk, allRead}
 use Rattle.items.specs.Sheet.{startSheet, answered, dealtSheet, dealtDesk, itemsLeft}
-use Rattle.items.specs.Lines.{told, ended}
+use Rattle.items.specs.Lines.{told}
 use Rattle.calls.specs.Calls.{valueOf}
 use Rattle.calls.specs.Listed.{sharedListKind}
 use Rattle.playing.specs.List.{listGave}
@@ -85,23 +83,5 @@ rounds (suc n) input p =
 abbrev pub allRounds : List ℕ → Play → Play
 allRounds input p = rounds (itemsLeft input (p .sheet .item)) input p
 
-abbrev pub begun : List ℕ → List ℕ → List ℕ → Play
-begun input desk out =
-    playing (dealtSheet startSheet input desk) hardReset (dealtDesk startSheet input desk .cells)
-    out
-
 unfoldable pub played : List ℕ → List ℕ → List ℕ → Play
-played input desk out = allRounds input (begun input desk out)
-
--- What is told
-
--- room for the bytes of a call and those that it must leave
-unfoldable pub desk : List ℕ
-desk = replicate 65600 0
-
-abbrev pub toldBy : Play → Desk
-toldBy p = ended (p .sheet) (p .out)
-
--- of the items among so many bytes that were read
-unfoldable pub toldOf : List ℕ → ℕ → List ℕ → Desk
-toldOf input n out = toldBy (played (allRead input n) desk out)
+played input desk out = allRounds input (playing startSheet hardReset desk out)

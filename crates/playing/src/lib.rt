@@ -9,16 +9,7 @@ use items::Sheet;
 ghost use mathlib.Core.Path.{_≡_};
 ghost use Rattle.channel.specs.declared.Answer.the-variants.{Done};
 ghost use Rattle.chip.specs.Chip.{hardReset};
-ghost use Rattle.playing.specs.Playing.{otherValue, outcome, turned, desk, played, toldOf};
-
-// Room for the bytes of a call and those that it must leave.
-const DESK: usize = 65600;
-
-fn desk() -> [u8; DESK]
-    ensures { λ r. ⌜ r ≡ desk ⌝ }
-{
-    [0; DESK]
-}
+ghost use Rattle.playing.specs.Playing.{otherValue, outcome, turned, played};
 
 // What a call other than an event gives.
 fn value_of(c: Chip, s: Sheet, desk: &[u8]) -> u8
@@ -52,27 +43,18 @@ fn start() -> Outcome
     }
 }
 
-// All items are played, one after another.
-fn play_all(input: &[u8], desk: &mut [u8], out: &mut [u8]) -> Sheet
+// All items are played on a chip, one after another, and the cases told.
+pub fn play(input: &[u8], desk: &mut [u8], out: &mut [u8]) -> Sheet
     ensures { λ r. ⌜ r ≡ played (now (input .entry)) (now (desk .entry)) (now (out .entry)) .sheet ⌝ }
+    ensures { λ r. ⌜ now (desk .exit) ≡ played (now (input .entry)) (now (desk .entry)) (now (out .entry)) .desk ⌝ }
     ensures { λ r. ⌜ now (out .exit) ≡ played (now (input .entry)) (now (desk .entry)) (now (out .entry)) .out ⌝ }
 {
     let mut o = start();
-    let mut s = items::first(input, desk);
+    let mut s = Sheet::start();
     while s.item.kind != items::STOP {
         o = turn(o.chip, s, desk);
         let w = o.answer;
         s = items::next(s, input, desk, out, w.number(), w.value());
     }
     s
-}
-
-// So many bytes of items were read: all are played on a chip, and every line put into the lent part. Gives the place behind the last.
-pub fn play(input: &[u8], n: usize, out: &mut [u8]) -> usize
-    ensures { λ r. ⌜ r ≡ toldOf (now (input .entry)) n (now (out .entry)) .end ⌝ }
-    ensures { λ r. ⌜ now (out .exit) ≡ toldOf (now (input .entry)) n (now (out .entry)) .cells ⌝ }
-{
-    let mut desk = desk();
-    let s = play_all(items::all_read(input, n), &mut desk, out);
-    items::ended(s, out)
 }
