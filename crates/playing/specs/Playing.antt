@@ -6,12 +6,11 @@ use lib.Dec.{eqb, ltb}
 use Rattle.common.specs.Choice.{if_then_else_}
 use Rattle.channel.specs.declared.Answer.{Answer}
 use Rattle.channel.specs.declared.Answer.the-variants.{Gave}
-use Rattle.channel.specs.Answer.{answerNumber, answerValue}
 use Rattle.chip.specs.declared.Chip.{Chip}
 use Rattle.chip.specs.declared.Outcome.{Outcome}
 use Rattle.chip.specs.Chip.{hardReset}
 use Rattle.script.specs.Step.{step}
-use Rattle.script.specs.Shown.{registerOf}
+use Rattle.script.specs.Shown.{registerOf, shown}
 use Rattle.items.specs.declared.Item.{Item}
 use Rattle.items.specs.declared.Sheet.{Sheet}
 use Rattle.items.specs.Item.{registerKind, stopKind}
@@ -55,11 +54,10 @@ pub record Play : Type 0 where
 abbrev pub playing : Sheet → Chip → List ℕ → List ℕ → Play
 playing s c desk out = record { sheet = s; chip = c; desk = desk; out = out }
 
--- the item was answered so, and a case that ends is told
+-- the item was answered by a refusal's number and a value, and a case that ends is told
 abbrev pub answeredBy : List ℕ → Play → Outcome → Sheet
 answeredBy input p o =
-    answered (p .sheet) (answerNumber (o .answer)) (answerValue (o .answer))
-    (told (p .sheet) input (p .out) .end)
+    answered (p .sheet) (shown o 0) (shown o 1) (told (p .sheet) input (p .out) .end)
 
 -- the next item
 abbrev pub dealtTo : List ℕ → Play → Outcome → Sheet → Play

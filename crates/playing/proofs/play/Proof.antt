@@ -4,9 +4,10 @@ use borrow.Author.Needs.{needs}
 use mathlib.Core.Path.{_≡_, refl, sym, ap, _∙_}
 use lib.ListN.{length}
 use denote.Ref.{now}
+use Rattle.chip.specs.declared.Outcome.{Outcome}
 use Rattle.items.specs.Sheet.{itemsLeft}
 use Rattle.items.specs.Laws.{dealt-less}
-use Rattle.playing.specs.Playing.{Play, playing, round, allRounds, played}
+use Rattle.playing.specs.Playing.{Play, playing, behind, round, allRounds, played}
 use Rattle.playing.proofs.Laws.{rounds-step, rounds-none}
 use Rattle.playing.proofs.play.Statement.{statement}
 use Rattle.playing.proofs.play.Tie as tie
@@ -33,11 +34,11 @@ loop-holds c = (refl, refl, refl)
 turn-requires : tie.Need-turn-requires Inv-loop μ-loop
 turn-requires c κs = tt
 
-number-requires : tie.Need-number-requires Inv-loop μ-loop
-number-requires c κs = tt
+shown-requires : tie.Need-shown-requires Inv-loop μ-loop
+shown-requires c κs = tt
 
-value-requires : tie.Need-value-requires Inv-loop μ-loop
-value-requires c κs = tt
+shown-requires-2 : tie.Need-shown-requires-2 Inv-loop μ-loop
+shown-requires-2 c κs = tt
 
 next-requires : tie.Need-next-requires Inv-loop μ-loop
 next-requires c κs = tt
@@ -55,18 +56,19 @@ loop-again c =
     let a = c .before .before .before .before .before .before .before .before .before .before .before .before .before .before .before .before .before .before .before .args in
     let l = c .before .before .before .before .before .before .before .before .before .before .before .before .before .loop in
     let next = c .before .before .before .before .next in
-    let here = playing (l .s) (l .o .chip) (l .desk) (l .out) in (
+    let input = now (a .input) in
+    let here = playing (l .s) (l .o .chip) (l .desk) (l .out) in
+    let played = ap (λ (o : Outcome). allRounds input (behind input here o)) (c .before .before .before .before .before .before .before .before .before .turn .ensures) in (
       next .kept .1 .1 .0 ∙ l .inv .0,
       next .kept .1 .1 .1 .0 ∙ l .inv .1,
       rw (
         next .ensures .0,
         next .ensures .1 .0,
         next .ensures .1 .1,
-        c .before .before .before .before .before .value .ensures,
-        c .before .before .before .before .before .before .number .ensures,
-        c .before .before .before .before .before .before .before .before .before .turn .ensures,
+        c .before .before .before .before .before .shown2 .ensures,
+        c .before .before .before .before .before .before .shown .ensures,
       )
-          (sym (rounds-step (now (a .input)) here (c .before .before .before .before .before .before .before .before .before .before .before .if1 .taken)) ∙ l .inv .2),
+          (played ∙ sym (rounds-step input here (c .before .before .before .before .before .before .before .before .before .before .before .if1 .taken)) ∙ l .inv .2),
     )
 
 same-length : tie.Need-same-length Inv-loop μ-loop
@@ -97,8 +99,8 @@ play-spec =
     start-requires-2
     loop-holds
     turn-requires
-    number-requires
-    value-requires
+    shown-requires
+    shown-requires-2
     next-requires
     loop-less
     loop-again
