@@ -75,9 +75,12 @@ callRight t given wanted =
     else (if eqb (t .kind) pagesKind then pagesRight t (pagesOf (reportOf SharedFlag given))
     else false)))
 
+-- of the bytes on the desk
+abbrev pub sheetRight : Sheet → List ℕ → Bool
+sheetRight s desk =
+    callRight (s .item) (partOf desk 0 (s .given)) (partOf desk (s .given) (s .wanted))
+
 -- what the register holds if the item names it, or 1 if its call gave what it must
 unfoldable pub valueOf : Sheet → ℕ → List ℕ → ℕ
 valueOf s register desk =
-    if eqb (s .item .kind) registerKind then register
-    else placed (callRight (s .item) (partOf desk 0 (s .given)) (partOf desk (s .given) (s .wanted)))
-    1
+    if eqb (s .item .kind) registerKind then register else placed (sheetRight s desk) 1

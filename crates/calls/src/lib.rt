@@ -5,7 +5,6 @@ use items::Item;
 use items::Sheet;
 use told::Listed;
 ghost use mathlib.Core.Path.{_≡_};
-ghost use Rattle.common.specs.Bit.{placed};
 ghost use Rattle.calls.specs.Calls.{page, lineRight, callRight, valueOf};
 ghost use Rattle.calls.specs.Listed.{betweenOf, listValue};
 

@@ -11,7 +11,6 @@ use Rattle.chip.specs.declared.Outcome.{Outcome}
 use Rattle.chip.specs.Chip.{hardReset}
 use Rattle.script.specs.Step.{step}
 use Rattle.script.specs.Shown.{registerOf, shown}
-use Rattle.items.specs.declared.Item.{Item}
 use Rattle.items.specs.declared.Sheet.{Sheet}
 use Rattle.items.specs.Item.{registerKind, stopKind}
 use Rattle.items.specs.Sheet.{startSheet, answered, dealtSheet, dealtDesk, itemsLeft}
