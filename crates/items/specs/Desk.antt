@@ -14,6 +14,10 @@ unfoldable pub partOf : List ℕ → ℕ → ℕ → List ℕ
 partOf bytes from to =
     bytesTo bytes (min from (min to (length bytes))) (min to (length bytes))
 
+-- so many bytes were read; where there may have been more, none count
+unfoldable pub allRead : List ℕ → ℕ → List ℕ
+allRead bytes n = if ltb n (length bytes) then partOf bytes 0 n else partOf bytes 0 0
+
 -- the cells of a desk, and where what lies on it ends
 pub record Desk : Type 0 where
   pub cells : List ℕ

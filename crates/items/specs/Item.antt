@@ -44,10 +44,10 @@ threeAt bytes at = threeBytes (byteFrom bytes at 0) (byteFrom bytes at 1) (byteF
 unfoldable pub bytesBehind : ℕ → ℕ → ℕ
 bytesBehind kind x = if leb nameKind kind && leb kind wantedKind then x else 0
 
--- there is no more
-abbrev pub stopItem : Item
-stopItem = record {
-  kind = stopKind;
+-- an item that says nothing
+abbrev pub emptyItem : ℕ → Item
+emptyItem kind = record {
+  kind = kind;
   x = 0;
   y = 0;
   z = 0;
@@ -66,7 +66,7 @@ behindItem size start n = if ltb (size - start) n then size else start + n
 
 unfoldable pub itemAt : List ℕ → ℕ → Item
 itemAt bytes at =
-    if ltb (length bytes - at) itemSize then stopItem
+    if ltb (length bytes - at) itemSize then emptyItem stopKind
     else record {
       kind = byteFrom bytes at 0;
       x = byteFrom bytes at 1;

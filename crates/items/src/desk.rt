@@ -2,7 +2,7 @@
 use crate::left_from;
 use crate::lesser;
 ghost use mathlib.Core.Path.{_≡_};
-ghost use Rattle.items.specs.Desk.{partOf, desk, laid, laidTimes};
+ghost use Rattle.items.specs.Desk.{partOf, allRead, desk, laid, laidTimes};
 
 // A part of bytes, from a place to a place, as far as there are bytes.
 pub fn part(bytes: &[u8], from: usize, to: usize) -> &[u8]
@@ -13,8 +13,18 @@ pub fn part(bytes: &[u8], from: usize, to: usize) -> &[u8]
     &bytes[a..e]
 }
 
+// The bytes that were read, so many; none where there may have been more.
+pub fn all_read(bytes: &[u8], n: usize) -> &[u8]
+    ensures { λ r. ⌜ now r ≡ allRead (now (bytes .entry)) n ⌝ }
+{
+    if n < bytes.len() {
+        return part(bytes, 0, n);
+    }
+    part(bytes, 0, 0)
+}
+
 // A pattern, where there is room for it. Gives the place behind.
-fn lay(cells: &mut [u8], end: usize, pattern: &[u8]) -> usize
+pub(crate) fn lay(cells: &mut [u8], end: usize, pattern: &[u8]) -> usize
     ensures { λ r. ⌜ r ≡ laid (now (pattern .entry)) (desk (now (cells .entry)) end) .end ⌝ }
     ensures { λ r. ⌜ now (cells .exit) ≡ laid (now (pattern .entry)) (desk (now (cells .entry)) end) .cells ⌝ }
 {

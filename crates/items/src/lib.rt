@@ -1,17 +1,23 @@
 // Known answers in bytes, as scripts/assemble makes them: items, read one by one, and the sheet on which they are judged. An item makes one call
-// and says what it must give, or has bytes for the next call, or ends a case. Assumes nothing.
+// and says what it must give, or has bytes for the next call, or ends a case. What is told, a line for each case and a last one, is put into a
+// buffer that is lent. Assumes nothing.
 mod cells;
 mod desk;
+mod lines;
 
 pub use crate::cells::cells_are;
+pub use crate::desk::all_read;
 use crate::desk::lay_times;
 pub use crate::desk::part;
+pub use crate::lines::ended;
+use crate::lines::tell;
 ghost use mathlib.Core.Path.{_≡_};
 ghost use Prim.Native.Nat.{_-_, _≤_, _<_, min};
-ghost use Rattle.items.specs.Item.{twoBytes, byteFrom, threeAt, bytesBehind, stopItem};
+ghost use Rattle.items.specs.Item.{twoBytes, byteFrom, threeAt, bytesBehind, emptyItem};
 ghost use Rattle.items.specs.Item.{behindItem, itemAt, says, placeOf, roomOf, timesOf};
 ghost use Rattle.items.specs.Sheet.{startSheet, counted, rightBy, closed, judged, answered};
-ghost use Rattle.items.specs.Sheet.{dealtItem, withItem, dealtDesk};
+ghost use Rattle.items.specs.Sheet.{withItem, dealtDesk, dealtSheet};
+ghost use Rattle.items.specs.Lines.{told};
 
 // An item of eight bytes: its kind, three arguments, and what it must give, a refusal's number and a value of three bytes. Bytes may stand behind
 // it, from a place to a place, which is the next item's.
@@ -122,11 +128,11 @@ fn bytes_behind(kind: u8, x: u8) -> usize
 }
 
 impl Item {
-    fn stop() -> Item
-        ensures { λ r. ⌜ r ≡ stopItem ⌝ }
+    fn empty(kind: u8) -> Item
+        ensures { λ r. ⌜ r ≡ emptyItem kind ⌝ }
     {
         Item {
-            kind: STOP,
+            kind,
             x: 0,
             y: 0,
             z: 0,
@@ -194,7 +200,7 @@ fn item_at(bytes: &[u8], at: usize) -> Item
     ensures { λ r. ⌜ r ≡ itemAt (now (bytes .entry)) at ⌝ }
 {
     if left_from(bytes.len(), at) < ITEM {
-        return Item::stop();
+        return Item::empty(STOP);
     }
     let kind = byte_from(bytes, at, 0);
     let x = byte_from(bytes, at, 1);
@@ -211,21 +217,22 @@ fn item_at(bytes: &[u8], at: usize) -> Item
 }
 
 // The item that was read last; the ends of the bytes for the next call and of those that it must leave, which stand behind them on the desk;
-// whether the case is right so far; the cases, and those that were.
+// whether the case is right so far; the cases, and those that were; the end of what has been told.
 pub struct Sheet {
     pub item: Item,
     pub given: usize,
     pub wanted: usize,
     pub right: bool,
-    pub cases: u64,
-    pub good: u64,
+    pub cases: usize,
+    pub good: usize,
+    pub told: usize,
 }
 
-// One more, up to a million.
-fn counted(n: u64, right: bool) -> u64
+// One more, up to five digits.
+fn counted(n: usize, right: bool) -> usize
     ensures { λ r. ⌜ r ≡ counted n right ⌝ }
 {
-    if 1000000 <= n {
+    if 99999 <= n {
         return n;
     }
     if right {
@@ -245,22 +252,24 @@ fn right_by(t: Item, number: u8, value: u8) -> bool
 }
 
 impl Sheet {
+    // Before the first item: no bytes for a call.
     pub fn start() -> Sheet
         ensures { λ r. ⌜ r ≡ startSheet ⌝ }
     {
         Sheet {
-            item: Item::stop(),
+            item: Item::empty(GIVEN),
             given: 0,
             wanted: 0,
             right: true,
             cases: 0,
             good: 0,
+            told: 0,
         }
     }
 
-    // A case ends: it is counted, and the next is right so far.
-    fn closed(self) -> Sheet
-        ensures { λ r. ⌜ r ≡ closed self ⌝ }
+    // A case ends: it is counted and told up to here, and the next is right so far.
+    fn closed(self, told: usize) -> Sheet
+        ensures { λ r. ⌜ r ≡ closed self told ⌝ }
     {
         let mut s = self;
         s.given = 0;
@@ -268,6 +277,7 @@ impl Sheet {
         s.right = true;
         s.cases = counted(self.cases, true);
         s.good = counted(self.good, self.right);
+        s.told = told;
         s
     }
 
@@ -283,15 +293,15 @@ impl Sheet {
     }
 
     // The item has been played; bytes for a call wait for it.
-    pub fn answered(self, number: u8, value: u8) -> Sheet
-        ensures { λ r. ⌜ r ≡ answered self number value ⌝ }
+    fn answered(self, number: u8, value: u8, told: usize) -> Sheet
+        ensures { λ r. ⌜ r ≡ answered self number value told ⌝ }
     {
         let kind = self.item.kind;
         if (GIVEN <= kind) & (kind <= WANTED) {
             return self;
         }
         if kind == NAME {
-            return self.closed();
+            return self.closed(told);
         }
         self.judged(right_by(self.item, number, value))
     }
@@ -312,11 +322,21 @@ impl Sheet {
 }
 
 // The next item is read; bytes for a call are laid on the desk, behind those that lie there.
-pub fn dealt(s: Sheet, bytes: &[u8], desk: &mut [u8]) -> Sheet
-    ensures { λ r. ⌜ r ≡ withItem s (dealtItem s (now (bytes .entry))) (dealtDesk s (now (bytes .entry)) (now (desk .entry)) .end) ⌝ }
+fn dealt(s: Sheet, bytes: &[u8], desk: &mut [u8]) -> Sheet
+    ensures { λ r. ⌜ r ≡ dealtSheet s (now (bytes .entry)) (now (desk .entry)) ⌝ }
     ensures { λ r. ⌜ now (desk .exit) ≡ dealtDesk s (now (bytes .entry)) (now (desk .entry)) .cells ⌝ }
 {
     let t = item_at(bytes, s.item.behind);
     let end = lay_times(desk, s.wanted, part(bytes, t.start, t.behind), t.times());
     s.with_item(t, end)
+}
+
+// An item was played and its call gave this: it is judged, a case that ends is told, and the next item is dealt.
+pub fn next(s: Sheet, bytes: &[u8], desk: &mut [u8], out: &mut [u8], number: u8, value: u8) -> Sheet
+    ensures { λ r. ⌜ r ≡ dealtSheet (answered s number value (told s (now (bytes .entry)) (now (out .entry)) .end)) (now (bytes .entry)) (now (desk .entry)) ⌝ }
+    ensures { λ r. ⌜ now (desk .exit) ≡ dealtDesk (answered s number value (told s (now (bytes .entry)) (now (out .entry)) .end)) (now (bytes .entry)) (now (desk .entry)) .cells ⌝ }
+    ensures { λ r. ⌜ now (out .exit) ≡ told s (now (bytes .entry)) (now (out .entry)) .cells ⌝ }
+{
+    let told = tell(s, bytes, out);
+    dealt(s.answered(number, value, told), bytes, desk)
 }

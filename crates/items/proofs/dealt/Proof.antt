@@ -1,10 +1,6 @@
 -- `items::dealt` meets its contract: the item is read, and its bytes are laid as often as it says. Assumes
 -- nothing.
-use Rattle.items.proofs.Branch.{tests}
-use Rattle.items.specs.Sheet.{dealtItem}
-use Rattle.items.specs.Sheet.{dealtDesk}
-use Rattle.items.specs.Sheet.{withItem}
-use Rattle.items.specs.Sheet.{laidFor}
+use Rattle.items.specs.Sheet.{dealtItem, dealtDesk, dealtSheet, laidFor}
 use mathlib.Core.Path.{refl}
 use borrow.Author.Needs.{needs}
 use Rattle.items.proofs.dealt.Statement.{statement}
@@ -29,7 +25,7 @@ same-length : tie.Need-same-length
 same-length c = search needs
 
 returns : tie.Need-returns
-unfolding dealtItem dealtDesk laidFor
+unfolding dealtItem dealtDesk dealtSheet laidFor
 returns c =
     let lay = c .before .before .before .lay-times .ensures in
     rw (

@@ -8,12 +8,12 @@ use Rattle.items.proofs.item_at.Tie as tie
 left-from-requires : tie.Need-left-from-requires
 left-from-requires c κs = tt
 
-stop-requires : tie.Need-stop-requires
-stop-requires c κs = tt
+empty-requires : tie.Need-empty-requires
+empty-requires c κs = tt
 
 returns : tie.Need-returns
 unfolding itemAt
-returns c = simp (tests, c .before .if1 .taken, ← c .before .before .left-from .ensures) (c .stop .ensures)
+returns c = simp (tests, c .before .if1 .taken, ← c .before .before .left-from .ensures) (c .empty .ensures)
 
 byte-from-requires : tie.Need-byte-from-requires
 byte-from-requires c κs = tt
@@ -57,7 +57,7 @@ item-at-spec =
     tie.close
     (tie.spec
     left-from-requires
-    stop-requires
+    empty-requires
     returns
     byte-from-requires
     byte-from-requires-2

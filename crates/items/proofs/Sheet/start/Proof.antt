@@ -3,11 +3,11 @@ use Rattle.items.proofs.Branch.{tests}
 use Rattle.items.proofs.Sheet.start.Statement.{statement}
 use Rattle.items.proofs.Sheet.start.Tie as tie
 
-stop-requires : tie.Need-stop-requires
-stop-requires c κs = tt
+empty-requires : tie.Need-empty-requires
+empty-requires c κs = tt
 
 returns : tie.Need-returns
-returns c = simp (tests, c .stop .ensures)
+returns c = simp (tests, c .empty .ensures)
 
 pub start-spec : {M : Type 1} → statement M
-start-spec = tie.close (tie.spec stop-requires returns)
+start-spec = tie.close (tie.spec empty-requires returns)

@@ -1,0 +1,66 @@
+// Known answers played on a chip, item by item, and what is told of them. Assumes nothing.
+mod list;
+
+use crate::list::list_value;
+use channel::Answer;
+use chip::Chip;
+use chip::Outcome;
+use items::Sheet;
+ghost use mathlib.Core.Path.{_≡_};
+ghost use Rattle.channel.specs.declared.Answer.the-variants.{Done};
+ghost use Rattle.chip.specs.Chip.{hardReset};
+ghost use Rattle.playing.specs.Playing.{otherValue, outcome, turned, played};
+
+// What a call other than an event gives.
+fn value_of(c: Chip, s: Sheet, desk: &[u8]) -> u8
+    ensures { λ r. ⌜ r ≡ otherValue c s (now (desk .entry)) ⌝ }
+{
+    if (s.item.kind == items::LIST) | (s.item.kind == items::SHARED_LIST) {
+        return list_value(c, s, desk);
+    }
+    calls::value_of(s, script::register(c, s.item.x, s.item.y), desk)
+}
+
+// What an event answers; of any other item the value of its call, and the chip as it is: no answer asks for the chip behind a list.
+fn turn(c: Chip, s: Sheet, desk: &[u8]) -> Outcome
+    ensures { λ r. ⌜ r ≡ turned c s (now (desk .entry)) ⌝ }
+{
+    if s.item.kind < items::REGISTER {
+        return script::step(c, s.item.kind, s.item.x, s.item.y, s.item.z);
+    }
+    Outcome {
+        answer: Answer::Gave(value_of(c, s, desk)),
+        chip: c,
+    }
+}
+
+fn start() -> Outcome
+    ensures { λ r. ⌜ r ≡ outcome Done hardReset ⌝ }
+{
+    Outcome {
+        answer: Answer::Done,
+        chip: Chip::reset(),
+    }
+}
+
+// All items are played on a chip, one after another, and the cases told.
+pub fn play(input: &[u8], desk: &mut [u8], out: &mut [u8]) -> Sheet
+    ensures { λ r. ⌜ r ≡ played (now (input .entry)) (now (desk .entry)) (now (out .entry)) .sheet ⌝ }
+    ensures { λ r. ⌜ now (desk .exit) ≡ played (now (input .entry)) (now (desk .entry)) (now (out .entry)) .desk ⌝ }
+    ensures { λ r. ⌜ now (out .exit) ≡ played (now (input .entry)) (now (desk .entry)) (now (out .entry)) .out ⌝ }
+{
+    let mut o = start();
+    let mut s = Sheet::start();
+    while s.item.kind != items::STOP {
+        o = turn(o.chip, s, desk);
+        s = items::next(
+            s,
+            input,
+            desk,
+            out,
+            script::shown(o, 0),
+            script::shown(o, 1),
+        );
+    }
+    s
+}
