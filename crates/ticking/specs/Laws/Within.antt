@@ -6,72 +6,51 @@ use mathlib.Core.Bool.{Bool, true, false, not, _&&_, _||_}
 use Rattle.common.specs.Mode.{inSdlc, inBlocks}
 use Rattle.common.specs.Tools.{both-left, both-right, not-true}
 use Rattle.line.specs.Bits.{oneIf}
-use Rattle.bytesync.specs.declared.Synced.{Synced}
 use Rattle.bytesync.specs.Sending.{tickBlock}
 use Rattle.bytesync.specs.Within as blocks
 use Rattle.bytesync.specs.Laws.Within as blocks-laws
-use Rattle.sdlc.specs.declared.Framed.{Framed}
 use Rattle.sdlc.specs.declared.Listened.{Listened}
 use Rattle.sdlc.specs.Sending.{tickSdlc}
 use Rattle.sdlc.specs.Within.{within, tickWithin, hearsOn, movedOn}
 use Rattle.sdlc.specs.Laws.Within.{sdlc-within, within-loaded, within-latch, inside, hear-within}
 use Rattle.sender.specs.declared.Sender.{Sender}
 use Rattle.sender.specs.declared.Sending.{Sending}
+use Rattle.sender.specs.declared.Ticked.{Ticked}
 use Rattle.sender.specs.Sender.{framerOf, byFramer, bySyncing, withBreak, tick}
 use Rattle.sender.specs.Laws.Tick.{tick-sdlc, tick-blocks}
 use Rattle.receiver.specs.declared.Heard.{Heard}
 use Rattle.receiver.specs.Receiver.{listenerOf, listenerIn, receptionIn, silent, byListener}
-use Rattle.receiver.specs.Receiver.{byMatched, hunting}
+use Rattle.receiver.specs.Receiver.{byMatched}
 use Rattle.receiver.specs.Laws.Tick.{hear-sdlc, hear-blocks}
 use Rattle.settings.specs.Settings.{transmitOn, breaks, modeIn, receivingOf, sendingOf}
-use Rattle.status.specs.declared.Live.{Live}
-use Rattle.status.specs.declared.Status.{Status}
-use Rattle.status.specs.Status.{noticed}
 use Rattle.channel.specs.declared.Channel.{Channel}
 use Rattle.channel.specs.declared.Answer.the-variants.{Gave}
 use Rattle.channel.specs.declared.Answered.{Answered}
-use Rattle.channel.specs.Channel.{withSender, withStatus, withTransmit, answered, liveOf, settled}
+use Rattle.channel.specs.Channel.{withSender, withTransmit, answered, settled}
 use Rattle.channel.specs.Events.{transmitted, transmitTick, heardBy, receiveTick}
-use Rattle.channel.specs.Laws.Still.{noticed-same, tick-still, hear-still, in-sdlc}
-use Rattle.ticking.specs.Within.{sendsWithin, withinByte, sentOn, tickedWithin, hearsWithin}
-use Rattle.ticking.specs.Within.{heardWithin, sendsBlock, withinBlock, sentBlock}
+use Rattle.channel.specs.Laws.Still.{tick-still, hear-still, in-sdlc}
+use Rattle.ticking.specs.Within.{sendsWithin, withinByte, tickedWithin, hearsWithin}
+use Rattle.ticking.specs.Within.{heardWithin, sendsBlock, withinBlock}
 use Rattle.ticking.specs.Within.{tickedBlock, hearsBlock, heardBlock}
 
 or-none : (a b : Bool) → (a || (false && b)) ≡ a
 or-none true b = refl
 or-none false b = refl
 
--- Sending: a tick that loads nothing and leaves the latch
+-- Sending
 
-sent-on : (c : Channel) (t : Framed) → t .loaded ≡ false
-    → t .framer .shared .latch ≡ c .sender .shared .latch
-    → transmitted c (byFramer (c .sender) t) ≡ sentOn c t
-unfolding settled liveOf
-sent-on c t l e =
-    let latch = t .framer .shared .latch in
+-- a tick that loads nothing and leaves the latch changes the sender alone
+sent-still : (c : Channel) (t : Ticked) → t .loaded ≡ false
+    → t .sender .shared .latch ≡ c .sender .shared .latch
+    → transmitted c t ≡ answered (Gave (oneIf (t .bit))) (withSender c (t .sender))
+sent-still c t l e =
     let on = transmitOn (c .registers .wr1) in
-    ap (λ (b : Bool). there (c .transmit || (b && on)) latch) l
-    ∙ ap (λ (m : Bool). there m latch) (or-none (c .transmit) on)
-    ∙ ap (there (c .transmit)) e
-    ∙ ap (λ (s : Status). answered (Gave (oneIf (t .bit))) (withStatus (withSender c next) s))
-    (noticed-same (c .status) (liveOf c))
+    ap (answered (Gave (oneIf (t .bit)))) (tick-still c t e)
+    ∙ ap (λ (b : Bool). there (c .transmit || (b && on))) l
+    ∙ ap there (or-none (c .transmit) on)
   where
-    next : Sender
-    next = byFramer (c .sender) t .sender
-
-    live : Bool → Live
-    live u = record {
-      abort = c .receiver .broken;
-      underrun = u;
-      cts = c .lines .cts;
-      hunt = hunting (receivingOf (c .registers) (c .lines)) (c .receiver);
-      dcd = c .lines .dcd;
-    }
-
-    there : Bool → Bool → Answered
-    there m u =
-        answered (Gave (oneIf (t .bit)))
-        (withStatus (withTransmit (withSender c next) m) (noticed (c .status) (liveOf c) (live u)))
+    there : Bool → Answered
+    there m = answered (Gave (oneIf (t .bit))) (withTransmit (withSender c (t .sender)) m)
 
 -- what the test says
 
@@ -102,23 +81,9 @@ unfolding withinByte transmitTick tickedWithin
 within-tick c w =
     let s = framerOf (c .sender) in
     ap (transmitted c) (tick-within (sendingOf (c .registers) (c .lines)) (c .sender) w)
-    ∙ sent-on c (tickWithin s) (within-loaded s) (within-latch s)
+    ∙ sent-still c (byFramer (c .sender) (tickWithin s)) (within-loaded s) (within-latch s)
 
 -- the same in Monosync and Bisync
-sent-block : (c : Channel) (t : Synced) → t .loaded ≡ false
-    → t .shared .latch ≡ c .sender .shared .latch
-    → transmitted c (bySyncing (c .sender) t) ≡ sentBlock c t
-sent-block c t l e =
-    let on = transmitOn (c .registers .wr1) in
-    ap (answered (Gave (oneIf (t .bit)))) (tick-still c (bySyncing (c .sender) t) e)
-    ∙ ap (λ (b : Bool). there (c .transmit || (b && on))) l
-    ∙ ap there (or-none (c .transmit) on)
-  where
-    there : Bool → Answered
-    there m =
-        answered (Gave (oneIf (t .bit)))
-        (withTransmit (withSender c (bySyncing (c .sender) t .sender)) m)
-
 tick-block : (g : Sending) (s : Sender) → sendsBlock g s ≡ true
     → tick g s ≡ bySyncing s (blocks.tickWithin (s .block) (s .shared))
 tick-block g s w =
@@ -149,36 +114,14 @@ block-tick c w =
     let u = c .sender .block in
     let k = c .sender .shared in
     ap (transmitted c) (tick-block (sendingOf (c .registers) (c .lines)) (c .sender) w)
-    ∙ sent-block c (blocks.tickWithin u k) (blocks-laws.within-loaded u k)
+    ∙ sent-still c (bySyncing (c .sender) (blocks.tickWithin u k)) (blocks-laws.within-loaded u k)
     (blocks-laws.within-latch u k)
 
--- Receiving: a tick that hands nothing over and leaves hunt and D7
-
-heard-on : (c : Channel) (b : Bool) → c .receiver .content .hunt ≡ false
-    → settled c (heardBy c
-    (silent (listenerIn (c .receiver) (movedOn (listenerOf (c .receiver)) b))))
-    ≡ heardWithin c b
-unfolding settled liveOf movedOn
-heard-on c b e =
-    let g = receivingOf (c .registers) (c .lines) in
-    ap (λ (h : Bool). withStatus (heardWithin c b)
-    (noticed (c .status) (liveOf c)
-    (live ((inSdlc (g .mode) && h) || (inBlocks (g .mode) && c .receiver .reception .hunt)))))
-    (sym e)
-    ∙ ap (λ (s : Status). withStatus (heardWithin c b) s) (noticed-same (c .status) (liveOf c))
-  where
-    live : Bool → Live
-    live h = record {
-      abort = c .receiver .broken;
-      underrun = c .sender .shared .latch;
-      cts = c .lines .cts;
-      hunt = h;
-      dcd = c .lines .dcd;
-    }
+-- Receiving
 
 pub receive-within : (c : Channel) (b : Bool) → hearsWithin c b ≡ true
     → receiveTick c b ≡ heardWithin c b
-unfolding hearsWithin receiveTick
+unfolding hearsWithin receiveTick movedOn
 receive-within c b w =
     let g = receivingOf (c .registers) (c .lines) in
     let s = listenerOf (c .receiver) in
@@ -190,7 +133,7 @@ receive-within c b w =
     (hear-sdlc g (c .receiver) b mode (both-left (g .on) x rest))
     ∙ ap (λ (h : Listened). settled c (heardBy c (byListener (c .receiver) h)))
     (hear-within (g .addressing) s b facts)
-    ∙ heard-on c b (facts .found)
+    ∙ hear-still c (silent (listenerIn (c .receiver) (movedOn s b))) refl (sym (facts .found)) refl
 
 pub block-hear : (c : Channel) (b : Bool) → hearsBlock c ≡ true
     → receiveTick c b ≡ heardBlock c b

@@ -1,7 +1,6 @@
 -- `items::Sheet::with_item` meets its contract: each return by the facts on its way. Assumes nothing.
 use Rattle.items.proofs.Branch.{tests}
 use Rattle.items.specs.Sheet.{withItem}
-use borrow.Author.Needs.{needs}
 use Rattle.items.proofs.Sheet.with_item.Statement.{statement}
 use Rattle.items.proofs.Sheet.with_item.Tie as tie
 

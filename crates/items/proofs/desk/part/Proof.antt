@@ -1,5 +1,4 @@
 -- `items::desk::part` meets its contract: both places are cut off at the end. Assumes nothing.
-use Rattle.items.proofs.Branch.{tests}
 use Rattle.items.specs.Desk.{partOf}
 use borrow.Author.Needs.{needs}
 use Rattle.items.proofs.desk.part.Statement.{statement}
