@@ -20,20 +20,10 @@ use Rattle.report.specs.Pages.{pagesNumber, pagesTicks}
 use Rattle.report.specs.Report.{reportOf, pagesOf}
 use Rattle.items.specs.declared.Item.{Item}
 use Rattle.items.specs.declared.Sheet.{Sheet}
-use Rattle.items.specs.Item.{registerKind, lineKind, says, placeOf, roomOf}
+use Rattle.items.specs.Item.{registerKind, pagesKind, zerosKind, lineKind, scanKind}
+use Rattle.items.specs.Item.{says, placeOf, roomOf}
 use Rattle.items.specs.Desk.{partOf}
 use Rattle.calls.specs.Same.{same}
-
--- The kinds
-
-abbrev pub pagesKind : ℕ
-pagesKind = 16
-
-abbrev pub zerosKind : ℕ
-zerosKind = 17
-
-abbrev pub scanKind : ℕ
-scanKind = 19
 
 -- A line
 

@@ -12,12 +12,9 @@ use Rattle.told.specs.declared.Listed.{Listed}
 use Rattle.told.specs.Answers.{listedNumber, listedNotes, listedTicks}
 use Rattle.items.specs.declared.Item.{Item}
 use Rattle.items.specs.declared.Sheet.{Sheet}
-use Rattle.items.specs.Item.{twoBytes, says}
+use Rattle.items.specs.Item.{sharedListKind, twoBytes, says}
 use Rattle.items.specs.Desk.{partOf}
 use Rattle.items.specs.Cells.{cellsAre}
-
-abbrev pub sharedListKind : ℕ
-sharedListKind = 15
 
 abbrev pub betweenOf : Item → Between
 betweenOf t = if eqb (t .kind) sharedListKind then SharedFlag else usual

@@ -13,12 +13,12 @@ use Rattle.chip.specs.Computing.{computing}
 use Rattle.script.specs.Step.{named, unnamed, step}
 use Rattle.script.specs.Shown.{pointedAt, registerOf, shown}
 use Rattle.text.specs.declared.Line.{Line}
-use Rattle.text.specs.Text.{emptyLine, with, withAll, decimal}
+use Rattle.text.specs.Text.{newline, space, emptyLine, with, withAll, decimal}
 use Rattle.events.specs.declared.Ending.{Ending}
 use Rattle.events.specs.declared.Ending.the-variants.{Unknown, TooLong}
 use Rattle.events.specs.declared.Found.the-variants.{Ended}
 use Rattle.events.specs.declared.Told.{Told}
-use Rattle.events.specs.Run.{foundAt, newline, space, unknownWord, cutWord, tooLongWords}
+use Rattle.events.specs.Run.{foundAt, unknownWord, cutWord, tooLongWords}
 use Rattle.events.specs.Run.{lastLine, behind, numbersLeft, toldLine, telling, played, next}
 
 -- the bytes of a line that count

@@ -9,7 +9,7 @@ use Rattle.chip.specs.declared.Outcome.{Outcome}
 use Rattle.script.specs.Step.{step}
 use Rattle.script.specs.Shown.{shown}
 use Rattle.text.specs.declared.Line.{Line}
-use Rattle.text.specs.Text.{emptyLine, withAll, numbered}
+use Rattle.text.specs.Text.{newline, space, emptyLine, withAll, numbered}
 use Rattle.events.specs.declared.Ending.{Ending}
 use Rattle.events.specs.declared.Ending.the-variants.{All, Unknown, Cut, TooLong}
 use Rattle.events.specs.declared.Found.{Found}
@@ -43,11 +43,6 @@ foundAt events at =
     }))))
 
 -- the words of the last line, in ASCII
-abbrev pub newline : ℕ
-newline = 10
-
-abbrev pub space : ℕ
-space = 32
 
 -- "unknown "
 abbrev pub unknownWord : List ℕ

@@ -7,7 +7,7 @@ use lib.ListN.{length, getD}
 use Rattle.common.specs.Choice.{if_then_else_}
 use Rattle.items.specs.declared.Item.{Item}
 
--- the kinds that are told apart here; below the first of them items are events by their codes
+-- the kinds; below the first of them items are events by their codes
 abbrev pub registerKind : ℕ
 registerKind = 10
 
@@ -20,8 +20,23 @@ givenKind = 12
 abbrev pub wantedKind : ℕ
 wantedKind = 13
 
+abbrev pub listKind : ℕ
+listKind = 14
+
+abbrev pub sharedListKind : ℕ
+sharedListKind = 15
+
+abbrev pub pagesKind : ℕ
+pagesKind = 16
+
+abbrev pub zerosKind : ℕ
+zerosKind = 17
+
 abbrev pub lineKind : ℕ
 lineKind = 18
+
+abbrev pub scanKind : ℕ
+scanKind = 19
 
 abbrev pub stopKind : ℕ
 stopKind = 255

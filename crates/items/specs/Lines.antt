@@ -5,17 +5,12 @@ use Prim.Native.Nat.{ℕ}
 use lib.Dec.{eqb}
 use Rattle.common.specs.Choice.{if_then_else_}
 use Rattle.text.specs.declared.Line.{Line}
-use Rattle.text.specs.Text.{emptyLine, withAll, numbered}
+use Rattle.text.specs.Text.{newline, space, emptyLine, withAll, numbered}
 use Rattle.items.specs.declared.Sheet.{Sheet}
 use Rattle.items.specs.Item.{nameKind}
 use Rattle.items.specs.Desk.{Desk, desk, partOf, laid}
 
 -- the words, in ASCII
-abbrev pub newline : ℕ
-newline = 10
-
-abbrev pub space : ℕ
-space = 32
 
 -- "ok  "
 abbrev pub okWord : List ℕ

@@ -4,25 +4,20 @@ use mathlib.Core.List.{List}
 use Prim.Native.Nat.{ℕ, zero, suc}
 use lib.Dec.{eqb, ltb}
 use Rattle.common.specs.Choice.{if_then_else_}
-use Rattle.channel.specs.declared.Answer.{Answer}
 use Rattle.channel.specs.declared.Answer.the-variants.{Gave}
 use Rattle.chip.specs.declared.Chip.{Chip}
 use Rattle.chip.specs.declared.Outcome.{Outcome}
-use Rattle.chip.specs.Chip.{hardReset}
+use Rattle.chip.specs.Chip.{hardReset, outcome}
 use Rattle.script.specs.Step.{step}
 use Rattle.script.specs.Shown.{registerOf, shown}
 use Rattle.items.specs.declared.Sheet.{Sheet}
-use Rattle.items.specs.Item.{registerKind, stopKind}
+use Rattle.items.specs.Item.{registerKind, listKind, sharedListKind, stopKind}
 use Rattle.items.specs.Sheet.{startSheet, answered, dealtSheet, dealtDesk, itemsLeft}
 use Rattle.items.specs.Lines.{told}
 use Rattle.calls.specs.Calls.{valueOf}
-use Rattle.calls.specs.Listed.{sharedListKind}
 use Rattle.playing.specs.List.{listGave}
 
 -- An item
-
-abbrev pub listKind : ℕ
-listKind = 14
 
 -- what a call gives that is no event: a list went through the chip, or the register is looked at
 -- that the item may name
@@ -30,9 +25,6 @@ unfoldable pub otherValue : Chip → Sheet → List ℕ → ℕ
 otherValue c s desk =
     if eqb (s .item .kind) listKind || eqb (s .item .kind) sharedListKind then listGave s desk
     else valueOf s (registerOf c (s .item .x) (s .item .y)) desk
-
-abbrev pub outcome : Answer → Chip → Outcome
-outcome w c = record { answer = w; chip = c }
 
 -- an event answers and changes the chip; no answer asks for the chip behind another call
 unfoldable pub turned : Chip → Sheet → List ℕ → Outcome

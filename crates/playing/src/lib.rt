@@ -8,8 +8,8 @@ use chip::Outcome;
 use items::Sheet;
 ghost use mathlib.Core.Path.{_≡_};
 ghost use Rattle.channel.specs.declared.Answer.the-variants.{Done};
-ghost use Rattle.chip.specs.Chip.{hardReset};
-ghost use Rattle.playing.specs.Playing.{otherValue, outcome, turned, played};
+ghost use Rattle.chip.specs.Chip.{hardReset, outcome};
+ghost use Rattle.playing.specs.Playing.{otherValue, turned, played};
 
 // What a call other than an event gives.
 fn value_of(c: Chip, s: Sheet, desk: &[u8]) -> u8

@@ -6,6 +6,13 @@ use lib.ListN.{set, replicate}
 use Rattle.common.specs.Choice.{if_then_else_}
 use Rattle.text.specs.declared.Line.{Line}
 
+-- in ASCII
+abbrev pub newline : ℕ
+newline = 10
+
+abbrev pub space : ℕ
+space = 32
+
 -- seven numbers of three digits, six spaces and a newline
 abbrev pub longest : ℕ
 longest = 28
