@@ -16,7 +16,8 @@ use Rattle.whole.specs.Heard.{hearAll, endMarks}
 use Rattle.stories.specs.Story.{A, B, chan, happens, after, throughout}
 use Rattle.stories.specs.Sent.{lineOf, ticks}
 use Rattle.stories.specs.Received.{bitsOf}
-use Rattle.stories.specs.Sending.{times, tick, begin, begun, sendAbort, gone}
+use Rattle.settings.specs.Bytes.{sendAbort}
+use Rattle.stories.specs.Sending.{times, tick, begin, begun, gone}
 use Rattle.stories.specs.Receiving.{listening, story}
 use Rattle.history.specs.Receiving.Side as receiving
 use Rattle.history.specs.Receiving.Events.{Hearing}

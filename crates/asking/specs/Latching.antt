@@ -7,7 +7,8 @@ use mathlib.Core.List.{List, [], _∷_, _++_}
 use Prim.Native.Nat.{ℕ}
 use Rattle.chip.specs.Event.{Event, Receive, SetLines}
 use Rattle.tales.specs.Tale.{Happens, telling, reads}
-use Rattle.tales.specs.Words.{command, set, sendAbort, resetStatus, clearUnderrun, oneStop, sdlc}
+use Rattle.tales.specs.Words.{command, set, sendAbort, resetStatus, clearUnderrun, oneStop}
+use Rattle.tales.specs.Words.{sdlcMode}
 use Rattle.tales.specs.Words.{hearing, framing, blank, flag, ones}
 use Rattle.asking.specs.Happens.{happens}
 
@@ -28,7 +29,7 @@ broken = hearing 0 oneStop ++ asking ++ blank 0 ++ afresh
 
 -- between flags, nothing latched
 abbrev opened : List Event
-opened = hearing 0 sdlc ++ flag 0 ++ afresh ++ afresh ++ asking
+opened = hearing 0 sdlcMode ++ flag 0 ++ afresh ++ afresh ++ asking
 
 pub record Told (happens : Happens) : Type 0 where
   -- any change latches
@@ -36,7 +37,7 @@ pub record Told (happens : Happens) : Type 0 where
   pub cts-rises : reads happens (asking ++ lines 0 1) 0 0 ≡ 0x66
   pub dcd-falls : reads happens (asking ++ lines 1 0 ++ afresh ++ lines 0 0) 0 0 ≡ 0x46
   pub break-ends : reads happens (broken ++ (Receive 0 1 ∷ [])) 0 0 ≡ 0x47
-  pub hunt-ends : reads happens (hearing 0 sdlc ++ afresh ++ asking ++ flag 0) 0 0 ≡ 0x46
+  pub hunt-ends : reads happens (hearing 0 sdlcMode ++ afresh ++ asking ++ flag 0) 0 0 ≡ 0x46
   pub d6-rises :
       reads happens (framing 0 ++ afresh ++ asking ++ command 0 sendAbort) 0 0 ≡ 0x56
   -- "except D6 falling, which shows at once if nothing is latched"

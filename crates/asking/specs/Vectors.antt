@@ -4,7 +4,7 @@ use mathlib.Core.List.{List, [], _∷_, _++_}
 use Prim.Native.Nat.{ℕ}
 use Rattle.chip.specs.Event.{Event, SetLines, Acknowledge}
 use Rattle.tales.specs.Tale.{Happens, telling, reads, vector}
-use Rattle.tales.specs.Words.{set, hears, writes, takes, ticks, oneStop, oddParity, sdlc}
+use Rattle.tales.specs.Words.{set, hears, writes, takes, ticks, oneStop, oneStopOdd, sdlcMode}
 use Rattle.tales.specs.Words.{hearing, sending, sendEight, char41, frame00}
 use Rattle.asking.specs.Happens.{happens}
 
@@ -25,11 +25,11 @@ sent ch wr1 = sending ch oneStop ++ set ch 1 wr1 ++ writes ch 0 ++ ticks ch 1
 
 -- A has heard a frame of three characters, its receive interrupt on for all
 abbrev heardFrame : List Event
-heardFrame = hearing 0 sdlc ++ set 0 1 0b11000 ++ frame00 0
+heardFrame = hearing 0 sdlcMode ++ set 0 1 0b11000 ++ frame00 0
 
 -- A hears 41 with a wrong parity bit, odd parity being set, in this receive mode
 abbrev wrongParity : ℕ → List Event
-wrongParity mode = hearing 0 oddParity ++ set 0 1 mode ++ hears 0 11 0b01000001001
+wrongParity mode = hearing 0 oneStopOdd ++ set 0 1 mode ++ hears 0 11 0b01000001001
 
 -- DCD has gone on
 abbrev carrier : ℕ → ℕ → List Event

@@ -6,6 +6,7 @@ use lib.Dec.{eqb}
 use lib.ListN.{length, take, drop, replicate}
 use Rattle.common.specs.Choice.{if_then_else_}
 use Rattle.common.specs.Bit.{placed}
+use Rattle.common.specs.Same.{same}
 use Rattle.line.specs.Frame.{frame}
 use Rattle.zeros.specs.declared.Counted.{Counted}
 use Rattle.zeros.specs.Counted.{countedNumber, countedZeros}
@@ -23,7 +24,6 @@ use Rattle.items.specs.declared.Sheet.{Sheet}
 use Rattle.items.specs.Item.{registerKind, pagesKind, zerosKind, lineKind, scanKind}
 use Rattle.items.specs.Item.{says, placeOf, roomOf}
 use Rattle.items.specs.Desk.{partOf}
-use Rattle.calls.specs.Same.{same}
 
 -- A line
 

@@ -65,6 +65,11 @@ linesSet c dcd cts = settled c (withLines c (record { dcd = dcd; cts = cts }))
 abbrev pub onLevel : ℕ → Bool
 onLevel v = eqb v 1
 
+abbrev pub receiveIn : Channel → ℕ → Answered
+receiveIn c bit =
+    if leb 2 bit then answered (Refused refusal.Level) c
+    else answered Done (receiveTick c (onLevel bit))
+
 abbrev pub linesIn : Channel → ℕ → ℕ → Answered
 linesIn c dcd cts =
     if leb 2 dcd || leb 2 cts then answered (Refused refusal.Level) c

@@ -1,14 +1,12 @@
 -- 01, Events: the calls of the chip, each with its refusals. "The lowest number wins for a chip
 -- call (1, 2, 3)"; 02, P5: 10 "after 1". Assumes nothing.
-use mathlib.Core.Bool.{Bool, false, _&&_}
+use mathlib.Core.Bool.{false}
 use Prim.Native.Nat.{ℕ}
-use lib.Dec.{eqb, leb}
+use lib.Dec.{eqb}
 use Rattle.common.specs.Choice.{if_then_else_}
 use Rattle.common.specs.declared.Refusal.{Refusal}
 use Rattle.common.specs.declared.Refusal.the-variants as refusal
 use Rattle.interrupts.specs.declared.Six.{Six}
-use Rattle.interrupts.specs.Interrupts.{ended}
-use Rattle.settings.specs.Settings.{commandIn}
 use Rattle.channel.specs.declared.Side.the-variants.{A, B}
 use Rattle.channel.specs.declared.Answer.{Answer}
 use Rattle.channel.specs.declared.Answer.the-variants.{Done, Refused}
@@ -16,11 +14,13 @@ use Rattle.channel.specs.declared.Answered.{Answered}
 use Rattle.channel.specs.declared.Channel.{Channel}
 use Rattle.channel.specs.Channel.{answered, resetWith}
 use Rattle.channel.specs.Control.{controlWritten, controlRead}
-use Rattle.channel.specs.Events.{dataWritten, dataRead, transmitTick, receiveTick}
-pub use Rattle.channel.specs.Events.{onLevel, linesIn}
+use Rattle.channel.specs.Events.{dataWritten, dataRead, transmitTick}
+pub use Rattle.channel.specs.Events.{onLevel, receiveIn, linesIn}
+pub use Rattle.reading.specs.Both.{endsService}
+use Rattle.reading.specs.Both.{serviceUnder}
 use Rattle.chip.specs.declared.Chip.{Chip}
 use Rattle.chip.specs.declared.Outcome.{Outcome}
-use Rattle.chip.specs.Interrupts.{chip, serviceOf, inService, anyPending, rr2}
+use Rattle.chip.specs.Interrupts.{chip, inService, anyPending, rr2}
 
 -- What a call hands back
 
@@ -55,12 +55,9 @@ hardReset =
 
 -- Control writes and reads
 
--- WR0's command "7 as RETI (A only, none in B)": the sources in service under A's write
-abbrev pub endsService : Channel → ℕ → Bool
-endsService a v = eqb (a .pointer) 0 && eqb (commandIn v) 7
-
+-- WR0's command 7 ends a source in service
 abbrev pub serviceBy : Chip → ℕ → Six
-serviceBy c v = if endsService (c .a) v then ended (serviceOf c) else serviceOf c
+serviceBy c v = serviceUnder (c .a) (c .b) v
 
 unfoldable pub controlWriteA : Chip → ℕ → Outcome
 controlWriteA c v =
@@ -92,11 +89,6 @@ dataReadCall c ch = inChannel c ch dataRead
 
 unfoldable pub transmitCall : Chip → ℕ → Outcome
 transmitCall c ch = inChannel c ch transmitTick
-
-abbrev pub receiveIn : Channel → ℕ → Answered
-receiveIn c bit =
-    if leb 2 bit then answered (Refused refusal.Level) c
-    else answered Done (receiveTick c (onLevel bit))
 
 unfoldable pub receiveCall : Chip → ℕ → ℕ → Outcome
 receiveCall c ch bit = inChannel c ch (λ x. receiveIn x bit)

@@ -1,15 +1,13 @@
--- 01, Interrupts and external status: the sources of both channels, RR2, acknowledge and RETI.
--- Assumes nothing.
+-- 01, Interrupts and external status: the sources of a chip, RR2, acknowledge and RETI. What they
+-- are of two channels is said in crate reading. Assumes nothing.
 use mathlib.Core.Bool.{Bool}
 use Prim.Native.Nat.{ℕ}
 use Rattle.interrupts.specs.declared.Six.{Six}
-use Rattle.interrupts.specs.Interrupts.{six, anyOf, highest, mayTake, acknowledged, ended}
-use Rattle.vector.specs.declared.Special.{Special}
-use Rattle.vector.specs.Vector.{vectorOf, ackedBy}
-use Rattle.settings.specs.Settings.{statusAffects}
+use Rattle.interrupts.specs.Interrupts.{anyOf, ended}
 use Rattle.channel.specs.declared.Channel.{Channel}
 use Rattle.channel.specs.Channel.{withService}
-use Rattle.channel.specs.Events.{specialWaits, pendingIn}
+use Rattle.reading.specs.declared.Taking.{Taking}
+use Rattle.reading.specs.Both.{pendingBoth, serviceBoth, vectorBoth, taking}
 use Rattle.chip.specs.declared.Chip.{Chip}
 use Rattle.chip.specs.declared.Acknowledged.{Acknowledged}
 
@@ -19,10 +17,10 @@ chip a b = record { a = a; b = b }
 -- The six sources of a chip: those that are pending, and those in service
 
 unfoldable pub pendingOf : Chip → Six
-pendingOf c = six (pendingIn (c .a)) (pendingIn (c .b))
+pendingOf c = pendingBoth (c .a) (c .b)
 
 abbrev pub serviceOf : Chip → Six
-serviceOf c = six (c .a .service) (c .b .service)
+serviceOf c = serviceBoth (c .a) (c .b)
 
 -- these are in service, and nothing else changes
 abbrev pub inService : Chip → Six → Chip
@@ -34,25 +32,17 @@ inService c s = chip (withService (c .a) (s .a)) (withService (c .b) (s .b))
 unfoldable pub anyPending : Chip → Bool
 anyPending c = anyOf (pendingOf c)
 
-abbrev pub specialOf : Chip → Special
-specialOf c = record { a = specialWaits (c .a); b = specialWaits (c .b) }
-
--- "RR2 that of the highest pending"; "WR2: vector, B only", "D2 status affects vector (B)"
 unfoldable pub rr2 : Chip → ℕ
-rr2 c =
-    vectorOf (c .b .registers .wr2) (statusAffects (c .b .registers .wr1))
-    (highest (pendingOf c)) (specialOf c)
+rr2 c = vectorBoth (c .a) (c .b)
 
 -- Acknowledge and RETI
 
--- "Acknowledge puts the highest source in service and leaves it pending"; it "gives the vector of
--- the source it takes", which is the highest pending
+-- an acknowledge answers, and puts in service, what it takes
+abbrev pub takenFrom : Chip → Taking → Acknowledged
+takenFrom c t = record { acked = t .acked; chip = inService c (t .service) }
+
 unfoldable pub acknowledge : Chip → Acknowledged
-acknowledge c =
-    record {
-      acked = ackedBy (mayTake (pendingOf c) (serviceOf c)) (rr2 c);
-      chip = inService c (acknowledged (pendingOf c) (serviceOf c));
-    }
+acknowledge c = takenFrom c (taking (pendingOf c) (serviceOf c) (rr2 c))
 
 -- "RETI ends the highest in service, or does nothing if there is none."
 unfoldable pub reti : Chip → Chip

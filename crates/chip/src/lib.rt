@@ -1,12 +1,16 @@
 // The chip: two channels, their interrupts, and the calls of document 01 with refusals 1 to 4 and 10. Any value of a chip is accepted. Assumes nothing.
-mod sources;
-
-use crate::sources::serving;
 use channel::Answer;
 use channel::Answered;
 use channel::Channel;
-use channel::Side;
 use common::Refusal;
+use control::control_write_a;
+use control::control_write_b;
+use interrupts::Six;
+use reading::acknowledging;
+use reading::control_read_a;
+use reading::control_read_b;
+use reading::service_in_both;
+use reading::service_under;
 use settings::Lines;
 use ticking::receive_a;
 use ticking::receive_b;
@@ -15,7 +19,7 @@ use ticking::transmit_b;
 use vector::Acked;
 ghost use mathlib.Core.Path.{_≡_};
 ghost use Rattle.common.specs.declared.Refusal.the-variants.{Channel as NoChannel};
-ghost use Rattle.chip.specs.Interrupts.{chip};
+ghost use Rattle.chip.specs.Interrupts.{chip, inService, acknowledge, reti};
 ghost use Rattle.chip.specs.Chip.{outcome, refused, hardReset, controlWriteA, controlWrite, controlReadCall, dataWriteCall};
 ghost use Rattle.chip.specs.Chip.{dataReadCall, transmitCall, receiveCall, linesCall};
 
@@ -59,6 +63,7 @@ fn from_b(x: Answered, a: Channel) -> Outcome
     }
 }
 
+// Each call by its channel. Its arms return, one by one: an answer that all of them make is laid out once more, and proved.
 impl Chip {
     // A hard reset.
     pub fn reset() -> Chip
@@ -74,124 +79,168 @@ impl Chip {
         }
     }
 
-    fn refused(self, k: Refusal) -> Outcome
-        ensures { λ r. ⌜ r ≡ refused self k ⌝ }
-    {
-        Outcome {
-            answer: Answer::Refused(k),
-            chip: self,
-        }
-    }
-
     // There is no such channel.
     fn no_channel(self) -> Outcome
         ensures { λ r. ⌜ r ≡ refused self NoChannel ⌝ }
     {
-        self.refused(Refusal::Channel)
+        Outcome {
+            answer: Answer::Refused(Refusal::Channel),
+            chip: self,
+        }
     }
 
-    // A's control write: command 7 first, which ends a source in service.
-    fn control_write_a(self, v: u8) -> Outcome
+    // A's control write: command 7 first, which ends a source in service, of either channel.
+    fn write_a(self, v: u8) -> Outcome
         ensures { λ r. ⌜ r ≡ controlWriteA self v ⌝ }
     {
-        let s = self.service_by(v);
-        from_a(
-            control::control_write(serving(self.a, s.a), Side::A, v),
-            serving(self.b, s.b),
-        )
+        let s = service_under(self.a, self.b, v);
+        from_a(control_write_a(self.a, s.a, v), self.b.serving(s.b))
     }
 
     // Control write.
     pub fn control_write(self, ch: u8, v: u8) -> Outcome
         ensures { λ r. ⌜ r ≡ controlWrite self ch v ⌝ }
     {
-        if ch == 0 {
-            return self.control_write_a(v);
+        match ch {
+            0 => {
+                return self.write_a(v);
+            }
+            1 => {
+                return from_b(control_write_b(self.b, v), self.a);
+            }
+            _ => {
+                return self.no_channel();
+            }
         }
-        if ch == 1 {
-            return from_b(control::control_write(self.b, Side::B, v), self.a);
-        }
-        self.no_channel()
     }
 
     // Control read.
     pub fn control_read(self, ch: u8) -> Outcome
         ensures { λ r. ⌜ r ≡ controlReadCall self ch ⌝ }
     {
-        if ch == 0 {
-            return from_a(reading::control_read(self.a, self.any_pending(), 0), self.b);
+        match ch {
+            0 => {
+                return from_a(control_read_a(self.a, self.b), self.b);
+            }
+            1 => {
+                return from_b(control_read_b(self.a, self.b), self.a);
+            }
+            _ => {
+                return self.no_channel();
+            }
         }
-        if ch == 1 {
-            return from_b(reading::control_read(self.b, false, self.rr2()), self.a);
-        }
-        self.no_channel()
     }
 
     // Data write.
     pub fn data_write(self, ch: u8, v: u8) -> Outcome
         ensures { λ r. ⌜ r ≡ dataWriteCall self ch v ⌝ }
     {
-        if ch == 0 {
-            return from_a(self.a.data_write(v), self.b);
+        match ch {
+            0 => {
+                return from_a(self.a.data_write(v), self.b);
+            }
+            1 => {
+                return from_b(self.b.data_write(v), self.a);
+            }
+            _ => {
+                return self.no_channel();
+            }
         }
-        if ch == 1 {
-            return from_b(self.b.data_write(v), self.a);
-        }
-        self.no_channel()
     }
 
     // Data read.
     pub fn data_read(self, ch: u8) -> Outcome
         ensures { λ r. ⌜ r ≡ dataReadCall self ch ⌝ }
     {
-        if ch == 0 {
-            return from_a(self.a.data_read(), self.b);
+        match ch {
+            0 => {
+                return from_a(self.a.data_read(), self.b);
+            }
+            1 => {
+                return from_b(self.b.data_read(), self.a);
+            }
+            _ => {
+                return self.no_channel();
+            }
         }
-        if ch == 1 {
-            return from_b(self.b.data_read(), self.a);
-        }
-        self.no_channel()
     }
 
     // Transmit tick.
     pub fn transmit(self, ch: u8) -> Outcome
         ensures { λ r. ⌜ r ≡ transmitCall self ch ⌝ }
     {
-        if ch == 0 {
-            return from_a(transmit_a(self.a), self.b);
+        match ch {
+            0 => {
+                return from_a(transmit_a(self.a), self.b);
+            }
+            1 => {
+                return from_b(transmit_b(self.b), self.a);
+            }
+            _ => {
+                return self.no_channel();
+            }
         }
-        if ch == 1 {
-            return from_b(transmit_b(self.b), self.a);
-        }
-        self.no_channel()
     }
 
     // Receive tick.
     pub fn receive(self, ch: u8, bit: u8) -> Outcome
         ensures { λ r. ⌜ r ≡ receiveCall self ch bit ⌝ }
     {
-        if 2 <= ch {
-            return self.no_channel();
+        match ch {
+            0 => {
+                return from_a(receive_a(self.a, bit), self.b);
+            }
+            1 => {
+                return from_b(receive_b(self.b, bit), self.a);
+            }
+            _ => {
+                return self.no_channel();
+            }
         }
-        if 2 <= bit {
-            return self.refused(Refusal::Level);
-        }
-        if ch == 0 {
-            return from_a(receive_a(self.a, bit == 1), self.b);
-        }
-        from_b(receive_b(self.b, bit == 1), self.a)
     }
 
     // Set DCD and CTS.
     pub fn set_lines(self, ch: u8, dcd: u8, cts: u8) -> Outcome
         ensures { λ r. ⌜ r ≡ linesCall self ch dcd cts ⌝ }
     {
-        if ch == 0 {
-            return from_a(self.a.set_lines(dcd, cts), self.b);
+        match ch {
+            0 => {
+                return from_a(self.a.set_lines(dcd, cts), self.b);
+            }
+            1 => {
+                return from_b(self.b.set_lines(dcd, cts), self.a);
+            }
+            _ => {
+                return self.no_channel();
+            }
         }
-        if ch == 1 {
-            return from_b(self.b.set_lines(dcd, cts), self.a);
+    }
+
+    // These sources are in service, and nothing else changes.
+    fn in_service(mut self, s: Six) -> Chip
+        ensures { λ r. ⌜ r ≡ inService self s ⌝ }
+    {
+        self.a = self.a.serving(s.a);
+        self.b = self.b.serving(s.b);
+        self
+    }
+
+    // Acknowledge.
+    pub fn acknowledge(self) -> Acknowledged
+        ensures { λ r. ⌜ r ≡ acknowledge self ⌝ }
+    {
+        let t = acknowledging(self.a, self.b);
+        let w = t.acked;
+        Acknowledged {
+            acked: w,
+            chip: self.in_service(t.service),
         }
-        self.no_channel()
+    }
+
+    // RETI.
+    pub fn reti(self) -> Chip
+        ensures { λ r. ⌜ r ≡ reti self ⌝ }
+    {
+        self.in_service(service_in_both(self.a, self.b).reti())
     }
 }

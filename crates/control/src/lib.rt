@@ -9,6 +9,7 @@ use common::Refusal;
 use common::in_blocks;
 use common::in_sdlc;
 use common::mode_number;
+use interrupts::Sources;
 use settings::command_in;
 use settings::enters_hunt;
 use settings::mode_of;
@@ -18,7 +19,8 @@ use settings::preset_in;
 use settings::transmit_on;
 ghost use mathlib.Core.Path.{_≡_};
 ghost use Rattle.common.specs.Mode.{synchronous, sameMode};
-ghost use Rattle.channel.specs.Channel.{withPointer, settled};
+ghost use Rattle.channel.specs.declared.Side.the-variants.{A as OfA, B as OfB};
+ghost use Rattle.channel.specs.Channel.{withPointer, withService, settled};
 ghost use Rattle.channel.specs.Control.{commanded, preset, commandStep, presetStep, writeWr0, setWr1, setWr2, setWr3, inMode, setWr4, setRegister, controlWritten};
 
 // The two modes are one.
@@ -215,4 +217,17 @@ pub fn control_write(c: Channel, w: Side, v: u8) -> Answered
         answer: Answer::Done,
         channel: write_register(c, w, v),
     }
+}
+
+// A's control write, with these sources in service; and B's.
+pub fn control_write_a(a: Channel, s: Sources, v: u8) -> Answered
+    ensures { λ r. ⌜ r ≡ controlWritten (withService a s) OfA v ⌝ }
+{
+    control_write(a.serving(s), Side::A, v)
+}
+
+pub fn control_write_b(b: Channel, v: u8) -> Answered
+    ensures { λ r. ⌜ r ≡ controlWritten b OfB v ⌝ }
+{
+    control_write(b, Side::B, v)
 }

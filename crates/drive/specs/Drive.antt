@@ -15,6 +15,8 @@ use Rattle.sdlc.specs.Sending.{aborting}
 use Rattle.sender.specs.declared.Sender.{Sender}
 use Rattle.sender.specs.declared.Sending.{Sending}
 use Rattle.settings.specs.Settings.{sendingOf}
+use Rattle.settings.specs.Bytes.{sendAbort, channelReset, presetSent, clearUnderrun, sdlcMode}
+use Rattle.settings.specs.Bytes.{sendChecked}
 use Rattle.channel.specs.Answer.{answerValue}
 use Rattle.chip.specs.declared.Chip.{Chip}
 use Rattle.chip.specs.Chip.{controlWrite, controlReadCall, dataWriteCall, transmitCall}
@@ -43,30 +45,6 @@ tickA c = transmitCall c channelA .chip
 unfoldable pub bitA : Chip → Bool
 bitA c = odd (answerValue (transmitCall c channelA .answer))
 
--- What it writes to the registers
-
--- WR0 "D5-3 command: .. 1 Send Abort, .. 3 Channel Reset", "D7-6: .. 2 preset Tx check, 3 clear
--- Underrun latch"
-abbrev pub sendAbort : ℕ
-sendAbort = 8 * 1
-
-abbrev pub channelReset : ℕ
-channelReset = 8 * 3
-
-abbrev pub presetCheck : ℕ
-presetCheck = 64 * 2
-
-abbrev pub clearLatch : ℕ
-clearLatch = 64 * 3
-
--- "WR4: .. D3-2 .. 00 synchronous; D5-4 10 SDLC. WR5: D0 Tx check included, D3 on, .. D6-5 length",
--- 11 eight
-abbrev pub sdlcMode : ℕ
-sdlcMode = 0b00100000
-
-abbrev pub onEightBits : ℕ
-onEightBits = 0b01101001
-
 -- Before a frame
 
 -- the sender can send a frame: SDLC, on, check included, no break
@@ -91,7 +69,7 @@ unfoldable pub setUp : Chip → Chip
 setUp c =
     let reset = controlA c channelReset in
     let inMode = controlA (controlA reset 4) sdlcMode in
-    controlA (controlA inMode 5) onEightBits
+    controlA (controlA inMode 5) sendChecked
 
 -- a channel that can send stays as it is set, and a frame that is under way in it is aborted; any
 -- other is set up
@@ -149,7 +127,7 @@ flagEnded c = let d = prepared c in driven (ticksToFlag (d .a .sender .unit)) d 
 
 -- there the check is preset, the latch cleared and the first byte written
 unfoldable pub frameOpened : Chip → ℕ → Chip
-frameOpened c v = writeA (controlA (controlA (flagEnded c) presetCheck) clearLatch) v
+frameOpened c v = writeA (controlA (controlA (flagEnded c) presetSent) clearUnderrun) v
 
 -- "ticks with both flags", of which the opening one has gone before
 abbrev pub ticksLeft : List ℕ → ℕ

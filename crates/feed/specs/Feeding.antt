@@ -52,8 +52,8 @@ unfoldable pub toTheEnd : Framer → List ℕ → Run
 toTheEnd s rest = let n = length (toCome s rest) in ran n (afterTicks n s rest)
 
 -- a flag has ended, and the next unit is still to be chosen
-abbrev pub behindFlag : Shared → Framer
-behindFlag k = framer (Flag 0) notCounted k
+abbrev pub flagSent : Shared → Framer
+flagSent k = framer (Flag 0) notCounted k
 
 -- the first byte waits
 abbrev pub begins : Shared → Bool
@@ -67,5 +67,5 @@ mostToWrite = 2048
 -- is done
 unfoldable pub frameFed : Shared → List ℕ → Run
 frameFed k rest =
-    if begins k && ltb (length rest) mostToWrite then toTheEnd (behindFlag k) rest
-    else ran 0 (behindFlag k)
+    if begins k && ltb (length rest) mostToWrite then toTheEnd (flagSent k) rest
+    else ran 0 (flagSent k)

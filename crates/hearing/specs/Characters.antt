@@ -7,8 +7,8 @@ use mathlib.Core.List.{List, [], _∷_, _++_}
 use Prim.Native.Nat.{ℕ}
 use Rattle.chip.specs.Event.{Event, SetLines}
 use Rattle.tales.specs.Tale.{Happens, telling, reads, bytes}
-use Rattle.tales.specs.Words.{command, set, hears, takes, resetStatus, oneStop, twoStops, oddParity}
-use Rattle.tales.specs.Words.{evenParity, hearEight, hearing, char41, cut41, blank, ones}
+use Rattle.tales.specs.Words.{command, set, hears, takes, resetStatus, oneStop, twoStops}
+use Rattle.tales.specs.Words.{oneStopOdd, oneStopEven, hearEight, hearing, char41, cut41, blank, ones}
 use Rattle.hearing.specs.Happens.{happens}
 
 -- "Reset External/Status"
@@ -52,20 +52,20 @@ pub record Told (happens : Happens) : Type 0 where
   pub eight-bits : bytes happens (hearing 0 oneStop ++ char41 0) 0 1 ≡ 0x41 ∷ []
   -- "Unused high bits read 1; below eight bits a parity bit lies just above the data."; marked
   -- examples 6 and 7
-  pub seven-bits : bytes happens (short oddParity seven ++ hears 0 10 0b0100000111) 0 1 ≡ 0xC1 ∷ []
+  pub seven-bits : bytes happens (short oneStopOdd seven ++ hears 0 10 0b0100000111) 0 1 ≡ 0xC1 ∷ []
   pub six-bits : bytes happens (short oneStop six ++ hears 0 8 0b01111101) 0 1 ≡ 0xDF ∷ []
-  pub five-bits : bytes happens (short evenParity five ++ hears 0 8 0b01000011) 0 1 ≡ 0xE1 ∷ []
+  pub five-bits : bytes happens (short oneStopEven five ++ hears 0 8 0b01000011) 0 1 ≡ 0xE1 ∷ []
   -- 02, P1: "the true rule for asynchronous sending": of what reads 111000DD and 1111000D all five
   -- bits are given
   pub no-shape :
       bytes happens (short oneStop five ++ hears 0 14 0b01000010100011) 0 2 ≡ 0xE1 ∷ 0xF1 ∷ []
   -- "WR4: D0 parity, D1 even"; RR1 "D4 parity"
-  pub odd-wanted : reads happens (hearing 0 oddParity ++ evenly) 0 1 ≡ 0x11
-  pub odd-heard : reads happens (hearing 0 oddParity ++ oddly) 0 1 ≡ 0x01
-  pub even-wanted : reads happens (hearing 0 evenParity ++ oddly) 0 1 ≡ 0x11
+  pub odd-wanted : reads happens (hearing 0 oneStopOdd ++ evenly) 0 1 ≡ 0x11
+  pub odd-heard : reads happens (hearing 0 oneStopOdd ++ oddly) 0 1 ≡ 0x01
+  pub even-wanted : reads happens (hearing 0 oneStopEven ++ oddly) 0 1 ≡ 0x11
   -- "as set on that tick": parity is switched off before the stop bit
   pub parity-as-set :
-      reads happens (hearing 0 evenParity ++ char41 0 ++ set 0 4 oneStop ++ ones 0 1) 0 1
+      reads happens (hearing 0 oneStopEven ++ char41 0 ++ set 0 4 oneStop ++ ones 0 1) 0 1
       ≡ 0x11
   -- "one stop bit is checked": RR1 "D6 framing error"; a second is no part of a character
   pub framing-error : reads happens (hearing 0 oneStop ++ cut41 0) 0 1 ≡ 0x41
@@ -78,7 +78,7 @@ pub record Told (happens : Happens) : Type 0 where
   -- "if data and parity were 0 too, D7 sets until that 1"
   pub no-break : reads happens (hearing 0 oneStop ++ cut41 0) 0 0 ≡ 0x45
   pub no-break-by-parity :
-      reads happens (hearing 0 oddParity ++ hears 0 11 0b00000000010) 0 0 ≡ 0x45
+      reads happens (hearing 0 oneStopOdd ++ hears 0 11 0b00000000010) 0 0 ≡ 0x45
   pub breaks : reads happens (hearing 0 oneStop ++ blank 0) 0 0 ≡ 0xC5
   pub break-over : reads happens (hearing 0 oneStop ++ blank 0 ++ ones 0 1 ++ afresh) 0 0 ≡ 0x45
   -- "A tick while off clears D7, and .. drops the unfinished part"

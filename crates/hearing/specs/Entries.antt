@@ -6,7 +6,8 @@ use mathlib.Core.Path.{_≡_, refl}
 use mathlib.Core.List.{List, [], _∷_, _++_}
 use Rattle.chip.specs.Event.{Event}
 use Rattle.tales.specs.Tale.{Happens, telling, reads, bytes}
-use Rattle.tales.specs.Words.{command, hears, takes, ones, errorReset, oneStop, oddParity, hearing}
+use Rattle.tales.specs.Words.{command, hears, takes, ones, resetErrors, oneStop, oneStopOdd}
+use Rattle.tales.specs.Words.{hearing}
 use Rattle.tales.specs.Words.{char41, cut41}
 use Rattle.hearing.specs.Happens.{happens}
 
@@ -34,15 +35,15 @@ pub record Told (happens : Happens) : Type 0 where
   pub marks-gone :
       reads happens (twoAnd (cut41 0) ++ ones 0 1 ++ char41 0 ++ takes 0 2) 0 1 ≡ 0x21
   pub marks-kept :
-      reads happens (hearing 0 oddParity ++ right ++ right ++ right ++ wrong ++ takes 0 2) 0 1
+      reads happens (hearing 0 oneStopOdd ++ right ++ right ++ right ++ wrong ++ takes 0 2) 0 1
       ≡ 0x31
   -- "D4 and D5 are latched when an entry so marked becomes the oldest, until Error Reset"
-  pub not-oldest : reads happens (hearing 0 oddParity ++ right ++ wrong) 0 1 ≡ 0x01
-  pub oldest : reads happens (hearing 0 oddParity ++ right ++ wrong ++ takes 0 1) 0 1 ≡ 0x11
-  pub latched : reads happens (hearing 0 oddParity ++ wrong ++ right ++ takes 0 1) 0 1 ≡ 0x11
+  pub not-oldest : reads happens (hearing 0 oneStopOdd ++ right ++ wrong) 0 1 ≡ 0x01
+  pub oldest : reads happens (hearing 0 oneStopOdd ++ right ++ wrong ++ takes 0 1) 0 1 ≡ 0x11
+  pub latched : reads happens (hearing 0 oneStopOdd ++ wrong ++ right ++ takes 0 1) 0 1 ≡ 0x11
   pub overrun-latched : reads happens (four ++ takes 0 3) 0 1 ≡ 0x21
-  pub error-reset : reads happens (four ++ takes 0 2 ++ command 0 errorReset) 0 1 ≡ 0x01
-  pub queue-stays : reads happens (four ++ takes 0 2 ++ command 0 errorReset) 0 0 ≡ 0x45
+  pub error-reset : reads happens (four ++ takes 0 2 ++ command 0 resetErrors) 0 1 ≡ 0x01
+  pub queue-stays : reads happens (four ++ takes 0 2 ++ command 0 resetErrors) 0 0 ≡ 0x45
   -- "D6 and D7 are the oldest entry's"
   pub d6-of-the-oldest :
       reads happens (hearing 0 oneStop ++ cut41 0 ++ ones 0 1 ++ char41 0 ++ takes 0 1) 0 1 ≡ 0x01

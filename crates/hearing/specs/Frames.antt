@@ -6,7 +6,7 @@ use Prim.Native.Nat.{ℕ}
 use Rattle.chip.specs.Event.{Event}
 use Rattle.tales.specs.Tale.{Happens, telling, reads, bytes}
 use Rattle.tales.specs.Words.{command, set, hears, takes, resetStatus, presetReceived}
-use Rattle.tales.specs.Words.{sdlc, hearEight}
+use Rattle.tales.specs.Words.{sdlcMode, hearEight}
 use Rattle.tales.specs.Words.{hearing, flag, ones, frame00}
 use Rattle.hearing.specs.Happens.{happens}
 
@@ -16,7 +16,7 @@ afresh = command 0 resetStatus
 
 -- behind a flag, nothing latched
 abbrev opened : List Event
-opened = hearing 0 sdlc ++ flag 0 ++ afresh ++ afresh
+opened = hearing 0 sdlcMode ++ flag 0 ++ afresh ++ afresh
 
 -- marked example 2's frame of FF, and that of 00 with its first bit turned over
 abbrev frameFF : List Event
@@ -41,7 +41,7 @@ presetWithin =
 
 -- address search for this address
 abbrev searching : ℕ → List Event
-searching v = set 0 4 sdlc ++ set 0 6 v ++ set 0 3 0b11000101
+searching v = set 0 4 sdlcMode ++ set 0 6 v ++ set 0 3 0b11000101
 
 -- WR3, eight bits: off; with Enter Hunt, on and off
 abbrev off : ℕ
@@ -58,27 +58,27 @@ huntsOff = 0b11010000
 
 pub record Told (happens : Happens) : Type 0 where
   -- "a 0 after five ones is dropped"; "at the flag with the end mark"; marked example 4
-  pub values : bytes happens (hearing 0 sdlc ++ frameFF) 0 3 ≡ 0xFF ∷ 0x00 ∷ 0xFF ∷ []
-  pub good-end : reads happens (hearing 0 sdlc ++ frameFF ++ takes 0 2) 0 1 ≡ 0x87
-  pub bad-end : reads happens (hearing 0 sdlc ++ flipped ++ takes 0 2) 0 1 ≡ 0xC7
+  pub values : bytes happens (hearing 0 sdlcMode ++ frameFF) 0 3 ≡ 0xFF ∷ 0x00 ∷ 0xFF ∷ []
+  pub good-end : reads happens (hearing 0 sdlcMode ++ frameFF ++ takes 0 2) 0 1 ≡ 0x87
+  pub bad-end : reads happens (hearing 0 sdlcMode ++ flipped ++ takes 0 2) 0 1 ≡ 0xC7
   -- a flag's own bits are no content: the next frame, behind the same flag, has just its bytes
   pub next-values :
-      bytes happens (hearing 0 sdlc ++ frame00 0 ++ takes 0 3 ++ next00) 0 3
+      bytes happens (hearing 0 sdlcMode ++ frame00 0 ++ takes 0 3 ++ next00) 0 3
       ≡ 0x00 ∷ 0x78 ∷ 0xF0 ∷ []
   -- "Stray bits are thrown away and the check is bad."
-  pub stray-bad : reads happens (hearing 0 sdlc ++ stray ++ takes 0 2) 0 1 ≡ 0xC7
+  pub stray-bad : reads happens (hearing 0 sdlcMode ++ stray ++ takes 0 2) 0 1 ≡ 0xC7
   -- "Content under eight bits queues nothing."
-  pub under-eight : reads happens (hearing 0 sdlc ++ flag 0 ++ hears 0 7 0 ++ flag 0) 0 0 ≡ 0x54
+  pub under-eight : reads happens (hearing 0 sdlcMode ++ flag 0 ++ hears 0 7 0 ++ flag 0) 0 0 ≡ 0x54
   -- "through a seven-bit delay"; "A character is queued when the next has left the delay": 8 + 8
   -- + 7
-  pub not-yet : reads happens (hearing 0 sdlc ++ flag 0 ++ hears 0 22 0) 0 0 ≡ 0x54
-  pub queued : reads happens (hearing 0 sdlc ++ flag 0 ++ hears 0 23 0) 0 0 ≡ 0x55
+  pub not-yet : reads happens (hearing 0 sdlcMode ++ flag 0 ++ hears 0 22 0) 0 0 ≡ 0x54
+  pub queued : reads happens (hearing 0 sdlcMode ++ flag 0 ++ hears 0 23 0) 0 0 ≡ 0x55
   -- "a seventh one is an abort (outside hunt): D7 sets until the next 0, and the frame is dropped
   -- until a flag"
   pub abort : reads happens (opened ++ ones 0 7 ++ afresh) 0 0 ≡ 0xC4
   pub abort-over : reads happens (opened ++ ones 0 7 ++ afresh ++ hears 0 1 0 ++ afresh) 0 0 ≡ 0x44
-  pub dropped : reads happens (hearing 0 sdlc ++ flag 0 ++ ones 0 7 ++ hears 0 25 0) 0 0 ≡ 0x54
-  pub not-in-hunt : reads happens (hearing 0 sdlc ++ ones 0 7 ++ afresh) 0 0 ≡ 0x54
+  pub dropped : reads happens (hearing 0 sdlcMode ++ flag 0 ++ ones 0 7 ++ hears 0 25 0) 0 0 ≡ 0x54
+  pub not-in-hunt : reads happens (hearing 0 sdlcMode ++ ones 0 7 ++ afresh) 0 0 ≡ 0x54
   pub abort-of-dropped :
       reads happens (searching 0xC2 ++ flag 0 ++ afresh ++ afresh ++ hears 0 16 0 ++ ones 0 7) 0 0
       ≡ 0xC4
@@ -90,24 +90,24 @@ pub record Told (happens : Happens) : Type 0 where
   pub address-later :
       reads happens (searching 0xC2 ++ flag 0 ++ set 0 6 0 ++ hears 0 23 0) 0 0 ≡ 0x55
   -- "a flag ends hunt": six ones and a 0, whatever came before
-  pub hunt-over : reads happens (hearing 0 sdlc ++ afresh ++ hears 0 7 0b1111110) 0 0 ≡ 0x44
+  pub hunt-over : reads happens (hearing 0 sdlcMode ++ afresh ++ hears 0 7 0b1111110) 0 0 ≡ 0x44
   -- "in SDLC a WR3 write with D4 set, drops the unfinished part, .. and the count of ones and ..
   -- starts hunt": on or off, the queue stays
   pub hunt-anew : reads happens (opened ++ set 0 3 hunts ++ afresh) 0 0 ≡ 0x54
   pub hunt-anew-off : reads happens (opened ++ set 0 3 huntsOff ++ afresh) 0 0 ≡ 0x54
   pub ones-dropped :
-      reads happens (hearing 0 sdlc ++ afresh ++ ones 0 5 ++ set 0 3 hunts ++ hears 0 2 0b10) 0 0
-      ≡ 0x54
+      reads happens
+      (hearing 0 sdlcMode ++ afresh ++ ones 0 5 ++ set 0 3 hunts ++ hears 0 2 0b10) 0 0 ≡ 0x54
   pub queue-kept :
-      reads happens (hearing 0 sdlc ++ flag 0 ++ hears 0 23 0 ++ set 0 3 hunts) 0 0 ≡ 0x55
+      reads happens (hearing 0 sdlcMode ++ flag 0 ++ hears 0 23 0 ++ set 0 3 hunts) 0 0 ≡ 0x55
   -- "A tick while off" does so too
   pub off-hunts : reads happens (opened ++ set 0 3 off ++ ones 0 1 ++ afresh) 0 0 ≡ 0x54
   pub off-drops-ones :
-      reads happens (hearing 0 sdlc ++ afresh ++ ones 0 5 ++ offForATick ++ hears 0 2 0b10) 0 0
+      reads happens (hearing 0 sdlcMode ++ afresh ++ ones 0 5 ++ offForATick ++ hears 0 2 0b10) 0 0
       ≡ 0x54
   -- WR0 "D7-6: 1 preset Rx check"
   pub check-preset :
-      reads happens (hearing 0 sdlc ++ presetWithin ++ takes 0 2) 0 1
+      reads happens (hearing 0 sdlcMode ++ presetWithin ++ takes 0 2) 0 1
       ≡ 0xC7
 
 pub told : Told happens

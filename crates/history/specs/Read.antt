@@ -21,9 +21,9 @@ use Rattle.stories.specs.Story.{Which, A, B, number, chan, happens}
 -- By the pointer
 
 -- "D1 interrupt pending (A)"
-abbrev pub pendingIn : Which → Chip → Bool
-pendingIn A c = anyPending c
-pendingIn B c = false
+abbrev pub pendingSeen : Which → Chip → Bool
+pendingSeen A c = anyPending c
+pendingSeen B c = false
 
 abbrev pub controlValue : Which → Chip → ℕ
 controlValue w c = answerValue (happens c (ControlRead (number w)) .answer)
@@ -34,7 +34,7 @@ vectorIn A c = 0
 vectorIn B c = rr2 c
 
 reads-register : (w : Which) (c : Chip)
-    → controlValue w c ≡ readRegister (chan w c) (pendingIn w c) (vectorIn w c)
+    → controlValue w c ≡ readRegister (chan w c) (pendingSeen w c) (vectorIn w c)
 unfolding controlReadCall
 reads-register A c = refl
 reads-register B c = refl
@@ -49,14 +49,14 @@ by-pointer c pending vector n p =
     else (if eqb m 1 then rr1Now c else (if eqb m 2 then vector else 0))) p
 
 pub reads-rr0 : (w : Which) (c : Chip) → chan w c .pointer ≡ 0
-    → controlValue w c ≡ rr0 (chan w c) (pendingIn w c)
+    → controlValue w c ≡ rr0 (chan w c) (pendingSeen w c)
 reads-rr0 w c p =
-    reads-register w c ∙ by-pointer (chan w c) (pendingIn w c) (vectorIn w c) 0 p
+    reads-register w c ∙ by-pointer (chan w c) (pendingSeen w c) (vectorIn w c) 0 p
 
 pub reads-rr1 : (w : Which) (c : Chip) → chan w c .pointer ≡ 1
     → controlValue w c ≡ rr1Now (chan w c)
 reads-rr1 w c p =
-    reads-register w c ∙ by-pointer (chan w c) (pendingIn w c) (vectorIn w c) 1 p
+    reads-register w c ∙ by-pointer (chan w c) (pendingSeen w c) (vectorIn w c) 1 p
 
 -- Bits
 

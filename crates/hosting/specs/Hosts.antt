@@ -4,7 +4,7 @@ use mathlib.Core.List.{List, _++_}
 use Rattle.chip.specs.Event.{Event}
 use Rattle.tales.specs.Tale.{Happens, telling, digits, reads, line}
 use Rattle.tales.specs.Words.{command, hears, writes, takes, ticks, sendAbort, presetSent}
-use Rattle.tales.specs.Words.{clearUnderrun, sdlc, hearing, framing, byteWaits, flag, ones}
+use Rattle.tales.specs.Words.{clearUnderrun, sdlcMode, hearing, framing, byteWaits, flag, ones}
 use Rattle.hosting.specs.Happens.{happens}
 
 -- WR0: the next frame's check and latch
@@ -22,7 +22,7 @@ behindAbort = byteWaits 0 ++ ticks 0 12 ++ command 0 sendAbort ++ anew ++ writes
 
 -- A hears seven bytes of a frame and is not read; then an abort and a flag
 abbrev overflown : List Event
-overflown = hearing 0 sdlc ++ flag 0 ++ hears 0 56 0 ++ ones 0 8 ++ flag 0
+overflown = hearing 0 sdlcMode ++ flag 0 ++ hears 0 56 0 ++ ones 0 8 ++ flag 0
 
 -- the frame of 00 is out, and the next note's byte waits
 abbrev nextNote : List Event

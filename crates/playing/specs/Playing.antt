@@ -5,11 +5,12 @@ use Prim.Native.Nat.{ℕ, zero, suc}
 use lib.Dec.{eqb, ltb}
 use Rattle.common.specs.Choice.{if_then_else_}
 use Rattle.channel.specs.declared.Answer.the-variants.{Gave}
+use Rattle.channel.specs.Answer.{answerNumber, answerValue}
 use Rattle.chip.specs.declared.Chip.{Chip}
 use Rattle.chip.specs.declared.Outcome.{Outcome}
 use Rattle.chip.specs.Chip.{hardReset, outcome}
 use Rattle.script.specs.Step.{step}
-use Rattle.script.specs.Shown.{registerOf, shown}
+use Rattle.script.specs.Shown.{registerOf}
 use Rattle.items.specs.declared.Sheet.{Sheet}
 use Rattle.items.specs.Item.{registerKind, listKind, sharedListKind, stopKind}
 use Rattle.items.specs.Sheet.{startSheet, answered, dealtSheet, dealtDesk, itemsLeft}
@@ -48,7 +49,8 @@ playing s c desk out = record { sheet = s; chip = c; desk = desk; out = out }
 -- the item was answered by a refusal's number and a value, and a case that ends is told
 abbrev pub answeredBy : List ℕ → Play → Outcome → Sheet
 answeredBy input p o =
-    answered (p .sheet) (shown o 0) (shown o 1) (told (p .sheet) input (p .out) .end)
+    answered (p .sheet) (answerNumber (o .answer)) (answerValue (o .answer))
+    (told (p .sheet) input (p .out) .end)
 
 -- the next item
 abbrev pub dealtTo : List ℕ → Play → Outcome → Sheet → Play

@@ -53,14 +53,8 @@ pub fn play(input: &[u8], desk: &mut [u8], out: &mut [u8]) -> Sheet
     let mut s = Sheet::start();
     while s.item.kind != items::STOP {
         o = turn(o.chip, s, desk);
-        s = items::next(
-            s,
-            input,
-            desk,
-            out,
-            script::shown(o, 0),
-            script::shown(o, 1),
-        );
+        let w = o.answer;
+        s = items::next(s, input, desk, out, w.number(), w.value());
     }
     s
 }

@@ -1,18 +1,33 @@
-// 01, Registers: what a control read of one channel gives, on the definitions of crate channel. Any value of a channel is accepted. Assumes nothing.
+// 01, Registers: what a control read gives, and the interrupts of two channels. Any value of a channel is accepted. Assumes nothing.
+mod both;
 mod sources;
 
+pub use crate::both::acknowledging;
+pub use crate::both::control_read_a;
+pub use crate::both::control_read_b;
+pub use crate::both::pending_in_both;
+pub use crate::both::rr2;
+pub use crate::both::service_in_both;
+pub use crate::both::service_under;
+pub use crate::both::special_in_both;
+pub use crate::sources::pending;
+pub use crate::sources::special_waits;
 use bytesync::wrong;
 use channel::Answer;
 use channel::Answered;
 use channel::Channel;
 use common::in_blocks;
 use common::placed;
-pub use sources::pending;
-pub use sources::pending_in_both;
-pub use sources::special_in_both;
-pub use sources::special_waits;
+use interrupts::Six;
+use vector::Acked;
 ghost use mathlib.Core.Path.{_≡_};
 ghost use Rattle.channel.specs.Control.{rr0, rr1Now, readRegister, controlRead};
+
+// What an acknowledge answers, and the sources in service after it.
+pub struct Taking {
+    pub acked: Acked,
+    pub service: Six,
+}
 
 // RR0; whether any source is pending is the chip's to say.
 pub fn rr0(c: Channel, pending: bool) -> u8

@@ -7,8 +7,8 @@ use mathlib.Core.List.{List, [], _∷_, _++_}
 use Rattle.chip.specs.Event.{Event}
 use Rattle.tales.specs.Tale.{Happens, telling, digits, reads, line}
 use Rattle.tales.specs.Words.{command, set, hears, writes, takes, ticks, ones, resetStatus}
-use Rattle.tales.specs.Words.{clearUnderrun, oneStop, oddParity, sdlc, hearEight, hearing, sending}
-use Rattle.tales.specs.Words.{framing, char41, cut41, blank}
+use Rattle.tales.specs.Words.{clearUnderrun, oneStop, oneStopOdd, sdlcMode, hearEight, hearing}
+use Rattle.tales.specs.Words.{sending, framing, char41, cut41, blank}
 use Rattle.resetting.specs.Happens.{happens}
 
 -- "Reset External/Status"
@@ -17,7 +17,7 @@ afresh = command 0 resetStatus
 
 -- to a mode, and by the other one back to it
 abbrev toSdlc : List Event
-toSdlc = set 0 4 sdlc
+toSdlc = set 0 4 sdlcMode
 
 abbrev toAsynchronous : List Event
 toAsynchronous = set 0 4 oneStop
@@ -38,14 +38,14 @@ firstRead = hearing 0 oneStop ++ set 0 1 0b1000 ++ char41 0 ++ char41 0 ++ takes
 
 -- 41 in eight bits with the parity bit of even parity, while odd is set
 abbrev wrongParity : List Event
-wrongParity = hearing 0 oddParity ++ hears 0 11 0b01000001001
+wrongParity = hearing 0 oneStopOdd ++ hears 0 11 0b01000001001
 
 pub record Told (happens : Happens) : Type 0 where
   -- "An accepted WR4 that changes the mode": the same mode again, with other parity, cuts nothing
   pub same-mode : reads happens (underWay ++ set 0 4 oneStop) 0 1 ≡ 0x00
-  pub same-but-parity : reads happens (underWay ++ set 0 4 oddParity) 0 1 ≡ 0x00
+  pub same-but-parity : reads happens (underWay ++ set 0 4 oneStopOdd) 0 1 ≡ 0x00
   -- a refused one changes nothing, "the register pointer included": the byte behind it is WR4 again
-  pub pointer-stays : reads happens (set 0 4 0xFF ++ command 0 sdlc) 0 0 ≡ 0x54
+  pub pointer-stays : reads happens (set 0 4 0xFF ++ command 0 sdlcMode) 0 0 ≡ 0x54
   -- "idles the sender as after a mark": no character is under way; no zero is owed, a flag begins
   pub idled : reads happens (underWay ++ viaSdlc) 0 1 ≡ 0x01
   pub nothing-owed :
@@ -65,8 +65,8 @@ pub record Told (happens : Happens) : Type 0 where
       reads happens (hearing 0 oneStop ++ cut41 0 ++ takes 0 1 ++ viaSdlc ++ char41 0) 0 0
       ≡ 0x55
   pub half-frame :
-      reads happens (hearing 0 sdlc ++ ones 0 5 ++ viaCharacters ++ hears 0 2 0b10 ++ afresh) 0 0
-      ≡ 0x54
+      reads happens
+      (hearing 0 sdlcMode ++ ones 0 5 ++ viaCharacters ++ hears 0 2 0b10 ++ afresh) 0 0 ≡ 0x54
   -- "and starts hunt in SDLC"
   pub hunts : reads happens toSdlc 0 0 ≡ 0x54
   pub no-hunt : reads happens (toSdlc ++ afresh ++ toAsynchronous) 0 0 ≡ 0x44

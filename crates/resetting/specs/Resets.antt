@@ -9,7 +9,7 @@ use Rattle.channel.specs.declared.Answer.the-variants.{Gave}
 use Rattle.chip.specs.Event.{Event, HardReset, ControlRead, SetLines, Acknowledge}
 use Rattle.tales.specs.Tale.{Happens, telling, digits, answers, refusal, reads, line}
 use Rattle.tales.specs.Words.{command, set, hears, writes, takes, ticks, channelReset, resetStatus}
-use Rattle.tales.specs.Words.{clearUnderrun, oneStop, oddParity, sdlc, hearEight, sendEight}
+use Rattle.tales.specs.Words.{clearUnderrun, oneStop, oneStopOdd, sdlcMode, hearEight, sendEight}
 use Rattle.tales.specs.Words.{hearing, sending, framing, char41, blank, flag, frame00}
 use Rattle.resetting.specs.Happens.{happens}
 
@@ -21,7 +21,7 @@ reset = command 0 channelReset
 
 -- 41 in eight bits with the parity bit of even parity, while odd is set
 abbrev wrongParity : List Event
-wrongParity = hearing 0 oddParity ++ hears 0 11 0b01000001001
+wrongParity = hearing 0 oneStopOdd ++ hears 0 11 0b01000001001
 
 -- A has read a first character, its interrupt for first characters on
 abbrev firstRead : List Event
@@ -39,19 +39,19 @@ pub record Told (happens : Happens) : Type 0 where
   -- "zeroes the WRs": no external interrupt, receiver off, sender off, address 0, vector 0
   pub wr1-zero : reads happens (set 0 1 0b1 ++ reset ++ (SetLines 0 1 0 ∷ [])) 0 0 ≡ 0x4C
   pub wr3-zero :
-      reads happens (set 0 3 hearEight ++ reset ++ set 0 4 sdlc ++ afresh ++ flag 0) 0 0
+      reads happens (set 0 3 hearEight ++ reset ++ set 0 4 sdlcMode ++ afresh ++ flag 0) 0 0
       ≡ 0x54
   pub wr5-zero :
       line happens (set 0 5 sendEight ++ reset ++ set 0 4 oneStop ++ writes 0 0) 0 1 ≡ 1 ∷ []
   pub wr6-zero :
-      reads happens (set 0 6 0xC2 ++ reset ++ set 0 4 sdlc ++ set 0 3 0b11000101 ++ frame00 0) 0 0
-      ≡ 0x55
+      reads happens
+      (set 0 6 0xC2 ++ reset ++ set 0 4 sdlcMode ++ set 0 3 0b11000101 ++ frame00 0) 0 0 ≡ 0x55
   pub wr2-zero : reads happens (set 1 2 0xF1 ++ command 1 channelReset) 1 2 ≡ 0
   -- "empties buffer and queue"
   pub buffer-empty : reads happens (writes 0 0xFF ++ reset) 0 0 ≡ 0x44
   pub queue-empty : reads happens (hearing 0 oneStop ++ char41 0 ++ reset) 0 0 ≡ 0x44
   -- "leaves no mode": neither hunt nor a tick of SDLC
-  pub no-mode : reads happens (set 0 4 sdlc ++ reset ++ hears 0 1 1) 0 0 ≡ 0x44
+  pub no-mode : reads happens (set 0 4 sdlcMode ++ reset ++ hears 0 1 1) 0 0 ≡ 0x44
   -- "sets D6, clears D7 and RR1 D4 and D5"
   pub d6-set : reads happens (command 0 clearUnderrun ++ reset) 0 0 ≡ 0x44
   pub d7-clear : reads happens (hearing 0 oneStop ++ blank 0 ++ reset) 0 0 ≡ 0x44

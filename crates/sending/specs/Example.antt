@@ -18,7 +18,8 @@ use Rattle.chip.specs.Event.{Event, ControlWrite, DataWrite, Transmit}
 use Rattle.whole.specs.Start.{flagHead}
 use Rattle.whole.specs.Heard.{hearAll}
 use Rattle.stories.specs.Story.{A, chan, happens, after, throughout}
-use Rattle.stories.specs.Sent.{lineOf, ticks, d6, resetStatus}
+use Rattle.settings.specs.Bytes.{resetStatus}
+use Rattle.stories.specs.Sent.{lineOf, ticks, d6}
 use Rattle.stories.specs.Sending.{times, tick, setUp, begin, noisy, dry, late, whole, choosing}
 use Rattle.stories.specs.Sending.{held, begun, told}
 use Rattle.history.specs.Sound.{reset-sound}

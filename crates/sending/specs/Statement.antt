@@ -14,7 +14,8 @@ use Rattle.chip.specs.Event.{Event, ControlWrite, Transmit}
 use Rattle.whole.specs.Come.{opens}
 use Rattle.whole.specs.Start.{flagHead}
 use Rattle.stories.specs.Story.{Which, number, chan, happens, after}
-use Rattle.stories.specs.Sent.{lineOf, ticks, d6, resetStatus}
+use Rattle.settings.specs.Bytes.{resetStatus}
+use Rattle.stories.specs.Sent.{lineOf, ticks, d6}
 use Rattle.history.specs.Sending.Side.{sendingIn, fullOf, latchOf}
 use Rattle.history.specs.Sending.Stories.{TicksWhere, anew}
 use Rattle.timely.specs.Start.{Start}

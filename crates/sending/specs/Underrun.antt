@@ -20,7 +20,8 @@ use Rattle.chip.specs.Event.{Event, ControlWrite, DataWrite, Transmit}
 use Rattle.whole.specs.Come.{opens}
 use Rattle.whole.specs.Laws.Latch.{dry-sets, tick-set, Went, opened, latched, tick-went}
 use Rattle.stories.specs.Story.{Which, A, B, number, chan, happens, after}
-use Rattle.stories.specs.Sent.{d6, resetStatus}
+use Rattle.settings.specs.Bytes.{resetStatus}
+use Rattle.stories.specs.Sent.{d6}
 use Rattle.history.specs.Sending.Side.{Heeded, good, good-heeded, SenderSide, sendingIn, sideOf}
 use Rattle.history.specs.Sending.Side.{latchOf}
 use Rattle.timely.specs.InTime.{InTime, over, still, writes, next-frame, ticking}

@@ -36,10 +36,11 @@ use Rattle.chip.specs.Chip.{dataReadCall, transmitCall, receiveCall, linesCall}
 use Rattle.chip.specs.Event.{Event, HardReset, ControlWrite, ControlRead, DataWrite, DataRead}
 use Rattle.chip.specs.Event.{Transmit, Receive, SetLines, Acknowledge, Reti}
 use Rattle.stories.specs.Story.{Which, A, B, number, chan, happens}
-use Rattle.stories.specs.Sent.{d6, resetStatus}
+use Rattle.settings.specs.Bytes.{resetStatus}
+use Rattle.stories.specs.Sent.{d6}
 use Rattle.history.specs.Sending.Side.{sendingIn, latchOf}
 use Rattle.history.specs.Quiet.{by-channel}
-use Rattle.history.specs.Read.{pendingIn, reads-rr0, placed-le, d6-of}
+use Rattle.history.specs.Read.{pendingSeen, reads-rr0, placed-le, d6-of}
 use Rattle.channel.specs.declared.Side.the-variants as channels
 
 -- D6 as it is read
@@ -66,7 +67,7 @@ rr0-d6 c pending =
 pub d6-read : (w : Which) (c : Chip) → chan w c .pointer ≡ 0
     → d6 w c ≡ shownBits (chan w c .status) (liveOf (chan w c)) .underrun
 d6-read w c p =
-    ap (λ (v : ℕ). odd (v / 64)) (reads-rr0 w c p) ∙ rr0-d6 (chan w c) (pendingIn w c)
+    ap (λ (v : ℕ). odd (v / 64)) (reads-rr0 w c p) ∙ rr0-d6 (chan w c) (pendingSeen w c)
 
 -- Shown once set
 

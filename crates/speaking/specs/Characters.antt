@@ -7,8 +7,8 @@ use mathlib.Core.List.{List, [], _∷_, _++_}
 use Prim.Native.Nat.{ℕ}
 use Rattle.chip.specs.Event.{Event, SetLines}
 use Rattle.tales.specs.Tale.{Happens, telling, digits, reads, line}
-use Rattle.tales.specs.Words.{set, writes, ticks, oneStop, twoStops, oddParity}
-use Rattle.tales.specs.Words.{evenParity, sdlc, sendEight}
+use Rattle.tales.specs.Words.{set, writes, ticks, oneStop, twoStops, oneStopOdd}
+use Rattle.tales.specs.Words.{oneStopEven, sdlcMode, sendEight}
 use Rattle.speaking.specs.Happens.{happens}
 
 -- A is set so, by WR4 and WR5, and given this byte
@@ -46,9 +46,9 @@ pub record Told (happens : Happens) : Type 0 where
   pub two-stops : reads happens (sends twoStops sendEight 0 ++ ticks 0 10) 0 1 ≡ 0x00
   pub two-stops-sent : reads happens (sends twoStops sendEight 0 ++ ticks 0 11) 0 1 ≡ 0x01
   -- "WR4: D0 parity, D1 even": of the bits that are sent
-  pub odd-parity : line happens (sends oddParity seven 0x41) 0 10 ≡ digits 10 0b0100000111
-  pub even-parity : line happens (sends evenParity seven 0x41) 0 10 ≡ digits 10 0b0100000101
-  pub parity-of-five : line happens (sends oddParity five 0x20) 0 8 ≡ digits 8 0b00000011
+  pub odd-parity : line happens (sends oneStopOdd seven 0x41) 0 10 ≡ digits 10 0b0100000111
+  pub even-parity : line happens (sends oneStopEven seven 0x41) 0 10 ≡ digits 10 0b0100000101
+  pub parity-of-five : line happens (sends oneStopOdd five 0x20) 0 8 ≡ digits 8 0b00000011
   -- "is then finished as set on that tick": with another length, and off
   pub length-as-set :
       line happens (sends oneStop sendEight 0 ++ ticks 0 1 ++ set 0 5 five) 0 9
@@ -68,7 +68,7 @@ pub record Told (happens : Happens) : Type 0 where
   pub under-way : reads happens (sends oneStop sendEight 0 ++ ticks 0 9) 0 1 ≡ 0x00
   pub all-sent : reads happens (sends oneStop sendEight 0 ++ ticks 0 10) 0 1 ≡ 0x01
   -- "Events on B never change A's .., nor the reverse": B has no mode, and its byte is not sent
-  pub byte-in-b : reads happens (set 0 4 sdlc ++ writes 1 7) 1 1 ≡ 0x00
+  pub byte-in-b : reads happens (set 0 4 sdlcMode ++ writes 1 7) 1 1 ≡ 0x00
   -- "Break sends 0 in place of each bit while the steps go on.": off or on
   pub break-off : line happens (set 0 4 oneStop ++ set 0 5 0b00010000) 0 2 ≡ 0 ∷ 0 ∷ []
   pub break-goes-on :

@@ -6,12 +6,12 @@ use Prim.Native.Nat.{ℕ}
 use Rattle.chip.specs.Event.{Event}
 use Rattle.tales.specs.Tale.{Happens, telling, digits, reads, line}
 use Rattle.tales.specs.Words.{command, set, writes, ticks, sendAbort, resetStatus, presetSent}
-use Rattle.tales.specs.Words.{clearUnderrun, sdlc, sendEight, sendChecked, framing, byteWaits}
+use Rattle.tales.specs.Words.{clearUnderrun, sdlcMode, sendEight, sendChecked, framing, byteWaits}
 use Rattle.speaking.specs.Happens.{happens}
 
 -- A in SDLC with the latch cleared; the check is not included
 abbrev unchecked : List Event
-unchecked = set 0 4 sdlc ++ set 0 5 sendEight ++ command 0 clearUnderrun
+unchecked = set 0 4 sdlcMode ++ set 0 5 sendEight ++ command 0 clearUnderrun
 
 -- WR5: on, length 00, no check
 abbrev five : List Event
@@ -50,11 +50,13 @@ pub record Told (happens : Happens) : Type 0 where
   -- "In SDLC all characters have eight bits .. no matter what WR3, WR4, WR5 and WR7 hold."; 02, P1:
   -- "the true rule for asynchronous sending": F0, 1111000D, is eight bits here
   pub no-shape :
-      line happens (set 0 4 sdlc ++ five ++ writes 0 0xF0) 0 16 ≡ flagBits ++ digits 8 0b00001111
+      line happens (set 0 4 sdlcMode ++ five ++ writes 0 0xF0) 0 16
+      ≡ flagBits ++ digits 8 0b00001111
   -- "After five ones in a row in byte and check bits, counted on from the opening flag": over two
   -- bytes, and from a byte into its check
   pub over-bytes :
-      line happens (byteWaits 0xE0 ++ ticks 0 9 ++ writes 0 0x03) 0 16 ≡ digits 16 0b0000111110000000
+      line happens (byteWaits 0xE0 ++ ticks 0 9 ++ writes 0 0x03) 0 16
+      ≡ digits 16 0b0000111110000000
   pub into-check :
       line happens (byteWaits 0xF0) 0 41 ≡ digits 41 0b01111110000011111011011111011000000111111
   -- "After byte: .. if the latch is clear and WR5 D0 set, check, otherwise flag; either sets the
@@ -64,7 +66,8 @@ pub record Told (happens : Happens) : Type 0 where
   pub flag-latches :
       reads happens (unchecked ++ writes 0 0 ++ command 0 resetStatus ++ ticks 0 17) 0 0 ≡ 0x54
   pub latched-no-check :
-      line happens (set 0 4 sdlc ++ set 0 5 sendChecked ++ writes 0 0 ++ ticks 0 16) 0 8 ≡ flagBits
+      line happens (set 0 4 sdlcMode ++ set 0 5 sendChecked ++ writes 0 0 ++ ticks 0 16) 0 8
+      ≡ flagBits
   -- "After check: flag.", though a byte waits
   pub flag-behind-check : line happens (checking ++ writes 0 0x55) 0 20 ≡ checkRest ++ flagBits
   -- "taken at its first bit. Sending it leaves the generator alone": a preset does not change it

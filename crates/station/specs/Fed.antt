@@ -28,7 +28,7 @@ use Rattle.drive.specs.Framer.{chipWith}
 use Rattle.drive.specs.Laws.Frame.{beginning, begins, driven-frame, come-length}
 use Rattle.listline.specs.ListLine.{flagged, beforeNote}
 use Rattle.line.specs.Laws.Line.{fits-few}
-use Rattle.station.specs.Walk.{flagBefore}
+use Rattle.station.specs.Walk.{flagTicks}
 
 fed-frame : (c : Chip) (v : ℕ) (vs : List ℕ) → noteFits (length (v ∷ vs)) ≡ true
     → frameFed (frameOpened c v .a .sender .shared) vs
@@ -76,8 +76,8 @@ feeds c note d r f ed er =
 
 -- before a next note: no tick is none
 pub flag-gone : (between : Between) (gone : ℕ) (c : Chip)
-    → driven (flagBefore between gone) c [] ≡ beforeNote between gone c
-unfolding flagBefore driven
+    → driven (flagTicks between gone) c [] ≡ beforeNote between gone c
+unfolding flagTicks driven
 flag-gone between gone c = go (eqb gone 0)
   where
     go : (first : Bool)

@@ -47,5 +47,5 @@ Room true at rows = at + rowLength ≤ length rows
 Room false at rows = Unit
 
 -- the ticks of a note's own flag before it, so many having gone
-unfoldable pub flagBefore : Between → ℕ → ℕ
-flagBefore between gone = if eqb gone 0 then 0 else length (ownFlag between)
+unfoldable pub flagTicks : Between → ℕ → ℕ
+flagTicks between gone = if eqb gone 0 then 0 else length (ownFlag between)

@@ -3,9 +3,7 @@
 mod fitting;
 mod walk;
 
-use crate::fitting::feed_rest;
-use crate::fitting::gone;
-use crate::fitting::open_next;
+use crate::fitting::send_next;
 use crate::walk::Walk;
 use chip::Chip;
 use common::Refusal;
@@ -13,8 +11,6 @@ use flags::Between;
 use head::note_at;
 use line::note_fits;
 use notes::scan;
-use opening::chip_with;
-use opening::open_frame;
 pub use told::Listed;
 pub use told::Told;
 ghost use mathlib.Core.Path.{_≡_};
@@ -39,17 +35,11 @@ pub struct ListSent {
 pub const ROW: usize = 4;
 
 // One note through channel A: the frame goes out behind the flag that closed the one before, or behind a flag of its own.
-pub fn send(mut c: Chip, note: &[u8]) -> Sent
+pub fn send(c: Chip, note: &[u8]) -> Sent
     ensures { λ r. ⌜ r ≡ sendOf c (now (note .entry)) ⌝ }
 {
     if note_fits(note.len()) {
-        c = open_frame(c, note[0]);
-        let r = feed_rest(c.a.sender.shared, note);
-        c = chip_with(c, r.framer);
-        return Sent {
-            told: gone(note, r.ticks),
-            chip: c,
-        };
+        return send_next(c, Between::SharedFlag, 0, note);
     }
     Sent {
         told: Told::Refused(Refusal::NoteLength),
@@ -67,10 +57,10 @@ pub fn send_list(mut c: Chip, list: &[u8], rows: &mut [usize], between: Between)
     let mut w = Walk::start(s, rows.len());
     while w.notes < w.all {
         let note = note_at(list, w.at);
-        c = open_next(c, between, w.notes, note);
-        let r = feed_rest(c.a.sender.shared, note);
-        c = chip_with(c, r.framer);
-        w = w.on(rows, note, r.ticks);
+        let x = send_next(c, between, w.notes, note);
+        let t = x.told;
+        c = x.chip;
+        w = w.on(rows, note, t);
     }
     ListSent {
         listed: w.listed(s, between),

@@ -1,19 +1,20 @@
 // How far a list has gone, in numbers alone, and the row of each note. Assumes nothing.
 use crate::ROW;
-use crate::fitting::gone;
 use flags::Between;
 use head::LENGTH_BYTES;
 use notes::FIRST_NOTE;
 use notes::Scanned;
 use told::Listed;
+use told::Told;
 ghost use mathlib.Core.Path.{_≡_};
 ghost use mathlib.Core.Bool.{true};
 ghost use mathlib.Core.List.{[], _∷_};
 ghost use Prim.Native.Nat.{_+_, _*_, _<_};
 ghost use lib.ListN.{length};
-ghost use Rattle.line.specs.Frame.{flagBits, ticksOf};
+ghost use Rattle.line.specs.Frame.{zerosOf, ticksOf};
 ghost use Rattle.line.specs.Line.{noteFits};
 ghost use Rattle.report.specs.Report.{rowOf, toldAt};
+ghost use Rattle.told.specs.declared.Told.the-variants.{Gone};
 ghost use Rattle.station.specs.Walk.{atFirst, walkedOn, listedBy, Room};
 
 // How far a list has gone: of all its notes so many, the place of the next one, and the sum of their ticks; and whether rows are told.
@@ -62,10 +63,10 @@ impl Walk {
         }
     }
 
-    // One note more, whose frame took so many ticks behind its opening flag, and its row.
-    pub(crate) fn on(mut self, rows: &mut [usize], note: &[u8], behind: usize) -> Walk
+    // One note more, of which this is told, and its row.
+    pub(crate) fn on(mut self, rows: &mut [usize], note: &[u8], t: Told) -> Walk
         requires { ⌜ noteFits (length (now note)) ≡ true ⌝ }
-        requires { ⌜ behind + length flagBits ≡ ticksOf (now note) ⌝ }
+        requires { ⌜ t ≡ Gone (zerosOf (now note)) (ticksOf (now note)) ⌝ }
         requires { ⌜ Room (self .told) (4 * self .notes) (now rows) ⌝ }
         requires { ⌜ self .notes < 65536 ⌝ }
         requires { ⌜ self .at < 4294967296 ⌝ }
@@ -73,7 +74,6 @@ impl Walk {
         ensures { λ r. ⌜ r ≡ walkedOn self (now (note .entry)) ⌝ }
         ensures { λ _. ⌜ now (rows .exit) ≡ toldAt (self .told) (now (rows .entry)) (4 * self .notes) (rowOf (self .notes + 1) (now (note .entry))) ⌝ }
     {
-        let t = gone(note, behind);
         let ticks = t.ticks();
         let j = ROW * self.notes;
         self.notes = self.notes + 1;

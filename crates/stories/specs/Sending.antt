@@ -9,6 +9,7 @@ use lib.ListN.{replicate}
 use Rattle.line.specs.Check.{checkBits}
 use Rattle.line.specs.Insertion.{stuff}
 use Rattle.line.specs.Frame.{flagBits, noteBits, checkOf, frame}
+use Rattle.settings.specs.Bytes.{sendAbort, resetStatus, presetSent, clearUnderrun, sdlcMode}
 use Rattle.chip.specs.Computing.{computing}
 use Rattle.chip.specs.declared.Chip.{Chip}
 use Rattle.chip.specs.Chip.{hardReset}
@@ -16,7 +17,7 @@ use Rattle.chip.specs.Event.{Event, ControlWrite, ControlRead, DataWrite, DataR
 use Rattle.chip.specs.Event.{Receive, SetLines, Acknowledge, Reti}
 use Rattle.whole.specs.Start.{flagHead}
 use Rattle.stories.specs.Story.{A, happens, after}
-use Rattle.stories.specs.Sent.{lineOf, ticks, d6, resetStatus}
+use Rattle.stories.specs.Sent.{lineOf, ticks, d6}
 
 unfoldable pub times : ℕ → List Event → List Event
 times zero es = []
@@ -30,8 +31,8 @@ tick = Transmit 0 ∷ []
 -- hunt had latched it; then three bits of a flag
 abbrev pub setUp : List Event
 setUp =
-    ControlWrite 0 4 ∷ ControlWrite 0 0b100000 ∷ ControlWrite 0 5 ∷ ControlWrite 0 0b1001
-    ∷ ControlWrite 0 0b10000000 ∷ ControlWrite 0 0b11000000
+    ControlWrite 0 4 ∷ ControlWrite 0 sdlcMode ∷ ControlWrite 0 5 ∷ ControlWrite 0 0b1001
+    ∷ ControlWrite 0 presetSent ∷ ControlWrite 0 clearUnderrun
     ∷ ControlWrite 0 3 ∷ ControlWrite 0 0b1 ∷ ControlWrite 0 resetStatus ∷ times 3 tick
 
 abbrev pub begin : Chip
@@ -71,14 +72,11 @@ held = after choosing (SetLines 0 1 0 ∷ Transmit 0 ∷ [])
 
 -- another frame behind the closing flag, the latch cleared and the check not preset
 abbrev pub unpreset : List Event
-unpreset = ControlWrite 0 0b11000000 ∷ times 32 tick
+unpreset = ControlWrite 0 clearUnderrun ∷ times 32 tick
 
 -- Send Abort amid the second byte, and a byte of the next frame
 abbrev pub begun : List Event
 begun = DataWrite 0 1 ∷ (times 9 tick ++ (DataWrite 0 2 ∷ times 8 tick))
-
-abbrev pub sendAbort : ℕ
-sendAbort = 0b1000
 
 abbrev pub gone : List Event
 gone = DataWrite 0 3 ∷ times 16 tick

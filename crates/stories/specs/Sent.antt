@@ -62,7 +62,3 @@ ticks w (e ∷ st) = oneIf (isTick w e) + ticks w st
 -- RR0 D6, as a control read gives it
 abbrev pub d6 : Which → Chip → Bool
 d6 w c = odd (answerValue (happens c (ControlRead (number w)) .answer) / 64)
-
--- WR0, "D5-3 command: .. 2 Reset External/Status", which shows D6 as it now is
-abbrev pub resetStatus : ℕ
-resetStatus = 0b10000

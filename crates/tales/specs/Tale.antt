@@ -3,6 +3,7 @@
 -- nothing.
 use mathlib.Core.List.{List, [], _∷_, _++_}
 use Prim.Native.Nat.{ℕ, zero, suc, _/_, _%_}
+use Rattle.common.specs.Same.{same}
 use Rattle.channel.specs.declared.Answer.{Answer}
 use Rattle.channel.specs.Answer.{answerNumber, answerValue}
 use Rattle.chip.specs.declared.Chip.{Chip}
@@ -59,5 +60,5 @@ digits (suc n) v = digits n (v / 2) ++ (v % 2 ∷ [])
 
 -- all that a tale is computed by, opened together
 unfoldable pub telling : ℕ
-unfolding computing chipBehind given times digits
+unfolding computing chipBehind given times digits same
 telling = 0

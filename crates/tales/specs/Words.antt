@@ -1,7 +1,9 @@
--- Short words for the events of tales. Registers and commands are those of 01, Registers. Assumes
--- nothing.
+-- Short words for the events of tales. Assumes nothing.
 use mathlib.Core.List.{List, [], _∷_, _++_, map}
 use Prim.Native.Nat.{ℕ}
+pub use Rattle.settings.specs.Bytes.{sendAbort, resetStatus, channelReset, arm, resetTransmit}
+pub use Rattle.settings.specs.Bytes.{resetErrors, asReti, presetReceived, presetSent, clearUnderrun}
+pub use Rattle.settings.specs.Bytes.{sdlcMode, sendChecked}
 use Rattle.chip.specs.Event.{Event, ControlWrite, DataWrite, DataRead, Transmit, Receive}
 use Rattle.tales.specs.Tale.{times, digits}
 
@@ -26,38 +28,6 @@ takes ch n = times n (DataRead ch)
 abbrev pub ticks : ℕ → ℕ → List Event
 ticks ch n = times n (Transmit ch)
 
--- WR0, D5-3
-abbrev pub sendAbort : ℕ
-sendAbort = 0b00001000
-
-abbrev pub resetStatus : ℕ
-resetStatus = 0b00010000
-
-abbrev pub channelReset : ℕ
-channelReset = 0b00011000
-
-abbrev pub arm : ℕ
-arm = 0b00100000
-
-abbrev pub resetTransmit : ℕ
-resetTransmit = 0b00101000
-
-abbrev pub errorReset : ℕ
-errorReset = 0b00110000
-
-abbrev pub asReti : ℕ
-asReti = 0b00111000
-
--- WR0, D7-6
-abbrev pub presetReceived : ℕ
-presetReceived = 0b01000000
-
-abbrev pub presetSent : ℕ
-presetSent = 0b10000000
-
-abbrev pub clearUnderrun : ℕ
-clearUnderrun = 0b11000000
-
 -- WR4
 abbrev pub oneStop : ℕ
 oneStop = 0b00000100
@@ -65,24 +35,18 @@ oneStop = 0b00000100
 abbrev pub twoStops : ℕ
 twoStops = 0b00001100
 
-abbrev pub oddParity : ℕ
-oddParity = 0b00000101
+abbrev pub oneStopOdd : ℕ
+oneStopOdd = 0b00000101
 
-abbrev pub evenParity : ℕ
-evenParity = 0b00000111
+abbrev pub oneStopEven : ℕ
+oneStopEven = 0b00000111
 
-abbrev pub sdlc : ℕ
-sdlc = 0b00100000
-
--- WR3 and WR5: on, eight bits; in SDLC the check included
+-- WR3 and WR5: on, eight bits
 abbrev pub hearEight : ℕ
 hearEight = 0b11000001
 
 abbrev pub sendEight : ℕ
 sendEight = 0b01101000
-
-abbrev pub sendChecked : ℕ
-sendChecked = 0b01101001
 
 -- a channel in this mode, its receiver or its sender on
 abbrev pub hearing : ℕ → ℕ → List Event
@@ -93,7 +57,7 @@ sending ch wr4 = set ch 4 wr4 ++ set ch 5 sendEight
 
 -- SDLC, the latch cleared
 abbrev pub framing : ℕ → List Event
-framing ch = set ch 4 sdlc ++ set ch 5 sendChecked ++ command ch clearUnderrun
+framing ch = set ch 4 sdlcMode ++ set ch 5 sendChecked ++ command ch clearUnderrun
 
 -- and in A with this byte in the buffer
 abbrev pub byteWaits : ℕ → List Event

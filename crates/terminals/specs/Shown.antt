@@ -20,7 +20,7 @@ use Rattle.channel.specs.Channel.{liveOf}
 use Rattle.channel.specs.Control.{rr0, rr1Now}
 use Rattle.chip.specs.declared.Chip.{Chip}
 use Rattle.stories.specs.Story.{Which, chan}
-use Rattle.history.specs.Read.{pendingIn, reads-rr0, reads-rr1, placed-le, placed-is, d6-of}
+use Rattle.history.specs.Read.{pendingSeen, reads-rr0, reads-rr1, placed-le, placed-is, d6-of}
 use Rattle.terminals.specs.Side.{sideIn, sideOf}
 use Rattle.terminals.specs.Statement.{rr1D6, d4}
 
@@ -93,4 +93,4 @@ rr0-d4 c pending =
 pub d4-is : (w : Which) (c : Chip) → chan w c .pointer ≡ 0
     → d4 w c ≡ shownBits (chan w c .status) (liveOf (chan w c)) .hunt
 d4-is w c p =
-    ap (λ (v : ℕ). odd (v / 16)) (reads-rr0 w c p) ∙ rr0-d4 (chan w c) (pendingIn w c)
+    ap (λ (v : ℕ). odd (v / 16)) (reads-rr0 w c p) ∙ rr0-d4 (chan w c) (pendingSeen w c)

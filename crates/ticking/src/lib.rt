@@ -11,12 +11,14 @@ use crate::within::tick_block;
 use crate::within::tick_within;
 use crate::within::within;
 use crate::within::within_block;
+use channel::Answer;
 use channel::Answered;
 use channel::Channel;
+use common::Refusal;
 ghost use mathlib.Core.Path.{_≡_};
 ghost use Rattle.channel.specs.declared.Answer.the-variants.{Done};
 ghost use Rattle.channel.specs.Channel.{answered};
-ghost use Rattle.channel.specs.Events.{transmitTick, receiveTick};
+ghost use Rattle.channel.specs.Events.{transmitTick, receiveTick, receiveIn};
 
 // A transmit tick whatever the unit is. The channel is copied here, so that a tick inside a byte need not lay it out for this one.
 fn ticked(c: Channel) -> Answered
@@ -66,10 +68,17 @@ fn heard_b(c: Channel, bit: bool) -> Answered
     b.receive_tick(bit)
 }
 
-// A's receive tick, and B's.
-pub fn receive_a(c: Channel, bit: bool) -> Answered
-    ensures { λ r. ⌜ r ≡ answered Done (receiveTick c bit) ⌝ }
+// A's receive tick, and B's; a level above 1 is refused.
+pub fn receive_a(c: Channel, level: u8) -> Answered
+    ensures { λ r. ⌜ r ≡ receiveIn c level ⌝ }
 {
+    if 2 <= level {
+        return Answered {
+            answer: Answer::Refused(Refusal::Level),
+            channel: c,
+        };
+    }
+    let bit = level == 1;
     if hears_block(c) {
         return hear_block(c, bit);
     }
@@ -79,9 +88,16 @@ pub fn receive_a(c: Channel, bit: bool) -> Answered
     heard_a(c, bit)
 }
 
-pub fn receive_b(c: Channel, bit: bool) -> Answered
-    ensures { λ r. ⌜ r ≡ answered Done (receiveTick c bit) ⌝ }
+pub fn receive_b(c: Channel, level: u8) -> Answered
+    ensures { λ r. ⌜ r ≡ receiveIn c level ⌝ }
 {
+    if 2 <= level {
+        return Answered {
+            answer: Answer::Refused(Refusal::Level),
+            channel: c,
+        };
+    }
+    let bit = level == 1;
     if hears_block(c) {
         return hear_block(c, bit);
     }

@@ -43,8 +43,9 @@ use Rattle.chip.specs.Interrupts.{chip, serviceOf, inService}
 use Rattle.chip.specs.Chip.{endsService, inA, controlWrite, controlWriteA, controlReadCall}
 use Rattle.chip.specs.Chip.{dataWriteCall, transmitCall}
 use Rattle.feed.specs.Laws.Feeding.{if-true, if-false}
-use Rattle.drive.specs.Drive.{controlA, lookA, writeA, tickA, bitA, sendAbort, channelReset}
-use Rattle.drive.specs.Drive.{presetCheck, clearLatch, sdlcMode, onEightBits, canSend}
+use Rattle.settings.specs.Bytes.{sendAbort, channelReset, presetSent, clearUnderrun, sdlcMode}
+use Rattle.settings.specs.Bytes.{sendChecked}
+use Rattle.drive.specs.Drive.{controlA, lookA, writeA, tickA, bitA, canSend}
 use Rattle.drive.specs.Drive.{betweenFrames, standsStill, setUp, freed, prepared}
 use Rattle.channel.specs.Laws.Still.{in-sdlc}
 
@@ -132,10 +133,10 @@ unfolding sendingOf
 mode-in c g = g .sdlc-mode
 
 module _ {c : Chip} {s : Framer} (h : Stands c s) where
-  pub preset-stands : Stands (controlA c presetCheck) (withShared s (checkSet (s .shared) ones))
+  pub preset-stands : Stands (controlA c presetSent) (withShared s (checkSet (s .shared) ones))
   unfolding writeWr0 commandStep presetStep commanded preset settled
   preset-stands =
-      rw (wr0 c presetCheck (h .pointer) refl)
+      rw (wr0 c presetSent (h .pointer) refl)
       (record {
         pointer = refl;
         good = h .good;
@@ -146,10 +147,10 @@ module _ {c : Chip} {s : Framer} (h : Stands c s) where
             ∙ ap (λ (x : Framer). withShared x (checkSet (x .shared) ones)) (h .sends);
       })
 
-  pub clear-stands : Stands (controlA c clearLatch) (withShared s (cleared (s .shared)))
+  pub clear-stands : Stands (controlA c clearUnderrun) (withShared s (cleared (s .shared)))
   unfolding writeWr0 commandStep presetStep commanded preset settled
   clear-stands =
-      rw (wr0 c clearLatch (h .pointer) refl)
+      rw (wr0 c clearUnderrun (h .pointer) refl)
       (record {
         pointer = refl;
         good = h .good;
@@ -173,7 +174,7 @@ afterSetUp = framer Mark notCounted (shared 0 false true ones)
 
 set-up-reset : (l : Lines) (b : Channel)
     → let inMode = controlA (controlA (chip (resetWith l) b) 4) sdlcMode in
-    Stands (controlA (controlA inMode 5) onEightBits) afterSetUp
+    Stands (controlA (controlA inMode 5) sendChecked) afterSetUp
 unfolding
     controlA controlWrite controlWriteA controlWritten writeWr0 commandStep presetStep commanded
     preset settled setRegister setWr4 notBuilt modeOf sendingOf

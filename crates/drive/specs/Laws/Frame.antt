@@ -27,7 +27,7 @@ use Rattle.whole.specs.Laws.Come.{moves}
 use Rattle.whole.specs.Laws.Start.{at-start, start-stage}
 use Rattle.chip.specs.declared.Chip.{Chip}
 use Rattle.chip.specs.Chip.{dataWriteCall}
-use Rattle.feed.specs.Feeding.{afterTicks, ticksLine, behindFlag}
+use Rattle.feed.specs.Feeding.{afterTicks, ticksLine, flagSent}
 use Rattle.feed.specs.Laws.Feeding.{ends}
 use Rattle.drive.specs.Drive.{betweenFrames, writeA, tickA, offer, driven, drivenLine}
 use Rattle.drive.specs.Drive.{prepared, ticksToFlag, flagEnded, frameOpened, ticksLeft}
@@ -80,34 +80,34 @@ module _ (k : Shared) where
   still u = framer u notCounted k
 
   flag-ends : (n : ℕ) (c : Chip) → Stands c (still (Flag n))
-      → RunsTo n c (flagTail n) (behindFlag k)
+      → RunsTo n c (flagTail n) (flagSent k)
   unfolding drivenLine driven
   flag-ends zero c h = record { line = refl; stands = h }
   flag-ends (suc n) c h = runs-on h (tick-flag good k n 0) (flag-ends n (tickA c))
 
-  mark-ends : (c : Chip) → Stands c (still Mark) → RunsTo 8 c flagBits (behindFlag k)
+  mark-ends : (c : Chip) → Stands c (still Mark) → RunsTo 8 c flagBits (flagSent k)
   mark-ends c h =
       runs-on h (tick-chooses good 0 k Mark refl ∙ next-mark good 0 k refl) (flag-ends 7 (tickA c))
 
   -- while no byte waits a flag follows a flag
-  pub flag-again : (c : Chip) → Stands c (behindFlag k) → k .full ≡ false
-      → RunsTo 8 c flagBits (behindFlag k)
+  pub flag-again : (c : Chip) → Stands c (flagSent k) → k .full ≡ false
+      → RunsTo 8 c flagBits (flagSent k)
   flag-again c h e =
       runs-on h (tick-chooses good 0 k (Flag 0) refl ∙ next-flag-empty good 0 k refl 0 e)
       (flag-ends 7 (tickA c))
 
   abort-ends : (n : ℕ) (c : Chip) → Stands c (still (Abort n))
-      → RunsTo (n + 8) c (replicate n true ++ flagBits) (behindFlag k)
+      → RunsTo (n + 8) c (replicate n true ++ flagBits) (flagSent k)
   abort-ends zero c h =
       runs-on h (tick-chooses good 0 k (Abort 0) refl ∙ next-abort good 0 k refl 0)
       (flag-ends 7 (tickA c))
   abort-ends (suc n) c h =
       let e : suc (n + 8) ≡ suc n + 8 = omega arith in
-      subst (λ (m : ℕ). RunsTo m c (true ∷ (replicate n true ++ flagBits)) (behindFlag k)) e
+      subst (λ (m : ℕ). RunsTo m c (true ∷ (replicate n true ++ flagBits)) (flagSent k)) e
       (runs-on h (tick-abort good k n 0) (abort-ends n (tickA c)))
 
   unit-ends : (u : LineUnit) (c : Chip) → betweenFrames u ≡ true → Stands c (still u)
-      → RunsTo (ticksToFlag u) c (flagBefore u) (behindFlag k)
+      → RunsTo (ticksToFlag u) c (flagBefore u) (flagSent k)
   unit-ends Mark c e h = mark-ends c h
   unit-ends (Flag n) c e h = flag-ends n c h
   unit-ends (Byte n v) c e h = void e
@@ -118,7 +118,7 @@ module _ (k : Shared) where
 -- and check that it had
 pub opens : (c : Chip) → let d = prepared c in
     let s = d .a .sender in
-    RunsTo (ticksToFlag (s .unit)) d (flagBefore (s .unit)) (behindFlag (s .shared))
+    RunsTo (ticksToFlag (s .unit)) d (flagBefore (s .unit)) (flagSent (s .shared))
 opens c =
     let d = prepared c in
     let w = prepared-well c in
@@ -130,7 +130,7 @@ opens c =
 
 -- it can begin: the first byte waits, the check is ones, the latch is clear
 abbrev pub beginning : ℕ → Framer
-beginning v = behindFlag (shared v true false ones)
+beginning v = flagSent (shared v true false ones)
 
 pub begins : (c : Chip) (v : ℕ) → Stands (frameOpened c v) (beginning v)
 unfolding frameOpened flagEnded

@@ -8,7 +8,7 @@ use Rattle.common.specs.Tools.{both-left, both-right}
 use Rattle.line.specs.declared.Insertion.{Insertion}
 use Rattle.sdlc.specs.declared.LineUnit.the-variants.{Flag}
 use Rattle.sdlc.specs.Sending.{framer}
-use Rattle.feed.specs.Feeding.{ran, toTheEnd, behindFlag, begins, mostToWrite, frameFed}
+use Rattle.feed.specs.Feeding.{ran, toTheEnd, flagSent, begins, mostToWrite, frameFed}
 use Rattle.feed.specs.Laws.Feeding.{if-true, begins-stage, begins-few}
 use Rattle.feed.proofs.feed_frame.Statement.{statement}
 use Rattle.feed.proofs.feed_frame.Tie as tie
@@ -34,7 +34,7 @@ returns c =
     let rest = now (s .args .rest) in
     c .to-the-end .ensures
     ∙ ap (λ (i : Insertion). toTheEnd (framer (Flag 0) i k) rest) (c .before .before .before .before .not-counted .ensures)
-    ∙ sym (if-true (toTheEnd (behindFlag k) rest) (ran 0 (behindFlag k)) (c .before .if1 .taken))
+    ∙ sym (if-true (toTheEnd (flagSent k) rest) (ran 0 (flagSent k)) (c .before .if1 .taken))
 
 returns-2 : tie.Need-returns-2
 unfolding frameFed

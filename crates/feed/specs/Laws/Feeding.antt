@@ -27,7 +27,7 @@ use Rattle.whole.specs.Start.{frameEnded}
 use Rattle.whole.specs.Laws.Come.{takes, moves}
 use Rattle.whole.specs.Laws.Start.{unended-some}
 use Rattle.feed.specs.Feeding.{takesByte, Supplied, supply, afterTicks, ticksLine}
-use Rattle.feed.specs.Feeding.{behindFlag, begins, mostToWrite}
+use Rattle.feed.specs.Feeding.{flagSent, begins, mostToWrite}
 
 -- A choice whose test is known
 
@@ -133,20 +133,20 @@ begins-as k e =
     λ i. shared (k .buffer) (f i) (l i) (k .check)
 
 pub begins-stage : (k : Shared) (rest : List ℕ) → begins k ≡ true
-    → Stage false (behindFlag k) 7 rest
+    → Stage false (flagSent k) 7 rest
 begins-stage k rest e =
-    subst (λ (x : Shared). Stage false (behindFlag x) 7 rest) (sym (begins-as k e))
+    subst (λ (x : Shared). Stage false (flagSent x) 7 rest) (sym (begins-as k e))
     (opening 0 (k .buffer) true (k .check) 7 rest (omega arith) tt)
 
 pub begins-few : (k : Shared) (rest : List ℕ) → begins k ≡ true → length rest < mostToWrite
-    → length (toCome (behindFlag k) rest) ≤ 19696
+    → length (toCome (flagSent k) rest) ≤ 19696
 unfolding closed
 begins-few k rest e l =
     let v = k .buffer in
     let c = k .check in
     let text = textBits 8 (v ∷ rest) in
     let content = text ++ checkBits (checkOver sdlc c text) in
-    let same = ap (λ (x : Shared). length (toCome (behindFlag x) rest)) (begins-as k e) in
+    let same = ap (λ (x : Shared). length (toCome (flagSent x) rest)) (begins-as k e) in
     omega (
       arith,
       same,

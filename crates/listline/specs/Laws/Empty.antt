@@ -18,7 +18,7 @@ use Rattle.whole.specs.Come.{good, toCome}
 use Rattle.whole.specs.Stage.{Stage, opening, inByte, inCheck, closing}
 use Rattle.whole.specs.Start.{frameEnded}
 use Rattle.whole.specs.Laws.Start.{unended-some}
-use Rattle.feed.specs.Feeding.{takesByte, Supplied, supply, afterTicks, behindFlag}
+use Rattle.feed.specs.Feeding.{takesByte, Supplied, supply, afterTicks, flagSent}
 use Rattle.feed.specs.Laws.Feeding.{ticks-on}
 
 -- The latch and the buffer
@@ -73,7 +73,7 @@ supply-none {s} (v ∷ rest) g e =
 -- The end of the frame
 
 pub record Rests (s : Framer) : Type 0 where
-  pub behind : s ≡ behindFlag (s .shared)
+  pub behind : s ≡ flagSent (s .shared)
   pub empty : s .shared .full ≡ false
 
 ended-rests : {s : Framer} {n : ℕ} {rest : List ℕ} → Stage false s n rest → NoneWaits (s .shared)

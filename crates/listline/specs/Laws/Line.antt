@@ -24,10 +24,11 @@ use Rattle.sender.specs.Good.{Good}
 use Rattle.chip.specs.declared.Chip.{Chip}
 use Rattle.chip.specs.Chip.{hardReset, controlReadCall}
 use Rattle.chip.specs.Computing.{computing}
-use Rattle.feed.specs.Feeding.{behindFlag, afterTicks}
+use Rattle.feed.specs.Feeding.{flagSent, afterTicks}
 use Rattle.feed.specs.Laws.Feeding.{if-true}
 use Rattle.drive.specs.Drive.{lookA, canSend, standsStill, setUp, freed, prepared, ticksToFlag}
-use Rattle.drive.specs.Drive.{controlA, sendAbort, driven, drivenLine, frameOpened, ticksLeft}
+use Rattle.settings.specs.Bytes.{sendAbort}
+use Rattle.drive.specs.Drive.{controlA, driven, drivenLine, frameOpened, ticksLeft}
 use Rattle.drive.specs.Drive.{sentBy}
 use Rattle.drive.specs.Laws.Calls.{sendingA, Stands, stands-as, set-up-stands}
 use Rattle.drive.specs.Laws.Look.{look-same}
@@ -42,7 +43,7 @@ use Rattle.listline.specs.Laws.Empty.{rests}
 -- a chip that has sent a frame, or a flag behind one: no byte waits
 record Behind (c : Chip) : Type 0 where
   own : Shared
-  stands : Stands c (behindFlag own)
+  stands : Stands c (flagSent own)
   empty : own .full ≡ false
 
 -- nothing is done to prepare it

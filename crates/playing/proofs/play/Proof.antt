@@ -34,11 +34,11 @@ loop-holds c = (refl, refl, refl)
 turn-requires : tie.Need-turn-requires Inv-loop μ-loop
 turn-requires c κs = tt
 
-shown-requires : tie.Need-shown-requires Inv-loop μ-loop
-shown-requires c κs = tt
+number-requires : tie.Need-number-requires Inv-loop μ-loop
+number-requires c κs = tt
 
-shown-requires-2 : tie.Need-shown-requires-2 Inv-loop μ-loop
-shown-requires-2 c κs = tt
+value-requires : tie.Need-value-requires Inv-loop μ-loop
+value-requires c κs = tt
 
 next-requires : tie.Need-next-requires Inv-loop μ-loop
 next-requires c κs = tt
@@ -65,8 +65,8 @@ loop-again c =
         next .ensures .0,
         next .ensures .1 .0,
         next .ensures .1 .1,
-        c .before .before .before .before .before .shown2 .ensures,
-        c .before .before .before .before .before .before .shown .ensures,
+        c .before .before .before .before .before .value .ensures,
+        c .before .before .before .before .before .before .number .ensures,
       )
           (played ∙ sym (rounds-step input here (c .before .before .before .before .before .before .before .before .before .before .before .if1 .taken)) ∙ l .inv .2),
     )
@@ -99,8 +99,8 @@ play-spec =
     start-requires-2
     loop-holds
     turn-requires
-    shown-requires
-    shown-requires-2
+    number-requires
+    value-requires
     next-requires
     loop-less
     loop-again

@@ -1,3 +1,4 @@
+-- `reading::control_read` meets its contract: each return by the facts on its way. Assumes nothing.
 use Rattle.reading.proofs.Branch.{tests}
 use Rattle.reading.proofs.control_read.Statement.{statement}
 use Rattle.reading.proofs.control_read.Tie as tie

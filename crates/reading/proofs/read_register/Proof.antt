@@ -1,3 +1,4 @@
+-- `reading::read_register` meets its contract: each return by the facts on its way. Assumes nothing.
 use Rattle.reading.proofs.Branch.{tests}
 use Rattle.channel.specs.Control.{readRegister}
 use Rattle.reading.proofs.read_register.Statement.{statement}

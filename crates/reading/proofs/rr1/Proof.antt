@@ -1,3 +1,4 @@
+-- `reading::rr1` meets its contract: each return by the facts on its way. Assumes nothing.
 use Rattle.reading.proofs.Branch.{tests}
 use Rattle.channel.specs.Control.{rr1Now}
 use Rattle.reading.proofs.rr1.Statement.{statement}

@@ -13,7 +13,7 @@ use Rattle.report.specs.Report.{rowOf, toldAt}
 use Rattle.told.specs.declared.Listed.{Listed}
 use Rattle.listline.specs.ListLine.{beforeNote}
 use Rattle.station.specs.declared.walk.Walk.{Walk}
-use Rattle.station.specs.Fed.{feeds}
+use Rattle.station.specs.declared.Sent.{Sent}
 use Rattle.station.specs.Station.{listSent}
 use Rattle.station.specs.Walk.{walkedOn, listedBy}
 use Rattle.station.specs.Laws.Walk.{WalkedList, Loop, loop-starts, loop-turns, loop-ends}
@@ -43,35 +43,26 @@ loop-holds c =
 note-at-requires : tie.Need-note-at-requires Inv-loop μ-loop
 note-at-requires c κs = tt
 
-open-next-requires : tie.Need-open-next-requires Inv-loop μ-loop
-open-next-requires c κs =
+send-next-requires : tie.Need-send-next-requires Inv-loop μ-loop
+send-next-requires c κs =
     let a = c .before .before .before .before .before .before .before .before .args in
     let l = c .before .before .before .loop in
     let x = next (a .between) (a .c) (now (a .rows)) (now (a .list)) (l .inv) (c .before .if1 .taken) in
     ap (λ (t : List ℕ). noteFits (length t)) (c .note-at .ensures) ∙ x .fits
 
-feed-rest-requires : tie.Need-feed-rest-requires Inv-loop μ-loop
-feed-rest-requires c κs = open-next-requires (c .before) κs
-
-chip-with-requires : tie.Need-chip-with-requires Inv-loop μ-loop
-chip-with-requires c κs = tt
-
 on-requires : tie.Need-on-requires Inv-loop μ-loop
 on-requires c κs =
-    let fed = c .before .before in
-    let d = fed .before in
-    let s = d .before .before .before .before .before .before .before .before .before in
+    let sent = c .before .before in
+    let found = sent .before in
+    let s = found .before .before .before .before .before .before .before .before in
     let a = s .args in
-    let l = d .before .before .before .before .loop in
-    let more = d .before .before .if1 .taken in
+    let l = found .before .before .before .loop in
+    let more = found .before .if1 .taken in
     let lent = now (a .rows) in
-    let list = now (a .list) in
-    let fits = open-next-requires (d .before) (s .κs .0, tt) in
-    let f = feeds (beforeNote (a .between) (l .w .notes) (l .c)) (now (d .before .note-at .result)) (d .open-next .result)
-    (fed .feed-rest .result) fits (d .open-next .ensures) (fed .feed-rest .ensures) in (
-      fits,
+    let list = now (a .list) in (
+      send-next-requires found (s .κs .0, tt),
       (
-        f .ticks,
+        ap (λ (x : Sent). x .told) (sent .send-next .ensures),
         (
           room (a .between) (a .c) lent list (l .inv) more,
           (
@@ -85,24 +76,20 @@ on-requires c κs =
 loop-less : tie.Need-loop-less Inv-loop μ-loop
 loop-less c =
     let on = c .before .before .on .ensures .0 in
-    let more = c .before .before .before .before .before .before .before .before .if1 .taken in
+    let more = c .before .before .before .before .before .before .before .if1 .taken in
     omega (arith, more, ap (λ (w : Walk). w .notes) on, ap (λ (w : Walk). w .all) on)
 
 loop-again : tie.Need-loop-again Inv-loop μ-loop
 loop-again c =
-    let fed = c .before .before .before .before .before in
-    let d = fed .before in
-    let s = d .before .before .before .before .before .before .before .before .before in
-    let a = s .args in
-    let l = d .before .before .before .before .loop in
+    let sent = c .before .before .before .before .before in
+    let found = sent .before in
+    let a = found .before .before .before .before .before .before .before .before .args in
+    let l = found .before .before .before .loop in
     let w = l .w in
-    let text = d .before .note-at .ensures in
-    let chip = beforeNote (a .between) (w .notes) (l .c) in
-    let f = feeds chip (now (d .before .note-at .result)) (d .open-next .result) (fed .feed-rest .result)
-    (open-next-requires (d .before) (s .κs .0, tt)) (d .open-next .ensures) (fed .feed-rest .ensures) in
+    let text = found .note-at .ensures in
     let on = c .before .before .on .ensures in
-    loop-turns (a .between) (a .c) (now (a .rows)) (now (a .list)) (l .inv) (d .before .before .if1 .taken)
-    (c .before .before .before .before .chip-with .ensures ∙ f .chip ∙ ap (sentBy chip) text)
+    loop-turns (a .between) (a .c) (now (a .rows)) (now (a .list)) (l .inv) (found .before .if1 .taken)
+    (ap (λ (x : Sent). x .chip) (sent .send-next .ensures) ∙ ap (sentBy (beforeNote (a .between) (w .notes) (l .c))) text)
     (on .0 ∙ ap (walkedOn w) text)
     (on .1 ∙ ap (λ (t : List ℕ). toldAt (w .told) (l .rows) (4 * w .notes) (rowOf (w .notes + 1) t)) text)
 
@@ -133,9 +120,7 @@ send-list-spec =
     start-requires
     loop-holds
     note-at-requires
-    open-next-requires
-    feed-rest-requires
-    chip-with-requires
+    send-next-requires
     on-requires
     loop-less
     loop-again

@@ -4,37 +4,37 @@ use Rattle.chip.specs.Chip.{controlWrite}
 use Rattle.chip.proofs.Chip.control_write.Statement.{statement}
 use Rattle.chip.proofs.Chip.control_write.Tie as tie
 
-control-write-a-requires : tie.Need-control-write-a-requires
-control-write-a-requires c κs = tt
+write-a-requires : tie.Need-write-a-requires
+write-a-requires c κs = tt
 
 returns : tie.Need-returns
 unfolding controlWrite
-returns c = simp (tests, c .before .if1 .taken) (c .control-write-a .ensures)
+returns c = simp (tests, c .before .match .keys1) (c .write-a .ensures)
 
-control-write-requires : tie.Need-control-write-requires
-control-write-requires c κs = tt
+control-write-b-requires : tie.Need-control-write-b-requires
+control-write-b-requires c κs = tt
 
 from-b-requires : tie.Need-from-b-requires
 from-b-requires c κs = tt
 
 returns-2 : tie.Need-returns-2
 unfolding controlWrite
-returns-2 c = simp (tests, c .before .before .if2 .taken, c .before .before .before .if1 .left, ← c .before .control-write .ensures) (c .from-b .ensures)
+returns-2 c = simp (tests, c .before .before .match .keys2, ← c .before .control-write-b .ensures) (c .from-b .ensures)
 
 no-channel-requires : tie.Need-no-channel-requires
 no-channel-requires c κs = tt
 
 returns-3 : tie.Need-returns-3
 unfolding controlWrite
-returns-3 c = simp (tests, c .before .if2 .left, c .before .before .if1 .left) (c .no-channel .ensures)
+returns-3 c = simp (tests, c .before .match .rest .1, c .before .match .rest .0 .1) (c .no-channel .ensures)
 
 pub control-write-spec : {M : Type 1} → statement M
 control-write-spec =
     tie.close
     (tie.spec
-    control-write-a-requires
+    write-a-requires
     returns
-    control-write-requires
+    control-write-b-requires
     from-b-requires
     returns-2
     no-channel-requires

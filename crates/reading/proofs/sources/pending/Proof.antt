@@ -1,3 +1,4 @@
+-- `reading::sources::pending` meets its contract: each return by the facts on its way. Assumes nothing.
 use Rattle.reading.proofs.Branch.{tests}
 use Rattle.channel.specs.Events.{pendingIn}
 use Rattle.reading.proofs.sources.pending.Statement.{statement}

@@ -1,3 +1,4 @@
+-- `reading::sources::receive_pending` meets its contract: each return by the facts on its way. Assumes nothing.
 use Rattle.reading.proofs.Branch.{tests}
 use Rattle.channel.specs.Events.{receivePending}
 use Rattle.reading.proofs.sources.receive_pending.Statement.{statement}

@@ -1,3 +1,4 @@
+-- `reading::sources::special_waits` meets its contract: each return by the facts on its way. Assumes nothing.
 use Rattle.reading.proofs.Branch.{tests}
 use Rattle.channel.specs.Events.{specialWaits}
 use Rattle.reading.proofs.sources.special_waits.Statement.{statement}

@@ -12,8 +12,8 @@ use Rattle.station.specs.Fed.{flag-gone}
 use Rattle.station.proofs.fitting.open_next.Statement.{statement}
 use Rattle.station.proofs.fitting.open_next.Tie as tie
 
-flag-before-requires : tie.Need-flag-before-requires
-flag-before-requires c κs = tt
+flag-ticks-requires : tie.Need-flag-ticks-requires
+flag-ticks-requires c κs = tt
 
 ticked-requires : tie.Need-ticked-requires
 ticked-requires c κs = tt
@@ -30,16 +30,16 @@ returns : tie.Need-returns
 returns c =
     let s = c .before .before .before .before .before in
     let a = s .args in
-    let flag = ap (λ (n : ℕ). driven n (a .c) []) (c .before .before .before .flag-before .ensures) in
+    let flag = ap (λ (n : ℕ). driven n (a .c) []) (c .before .before .before .flag-ticks .ensures) in
     c .open-frame .ensures
     ∙ ap (λ (x : Chip). frameOpened x (getD (now (a .note)) 0 0))
-    (c .before .before .ticked .ensures ∙ flag ∙ flag-gone (a .between) (a .gone) (a .c))
+    (c .before .before .ticked .ensures ∙ flag ∙ flag-gone (a .between) (a .earlier) (a .c))
 
 pub open-next-spec : {M : Type 1} → statement M
 open-next-spec =
     tie.close
     (tie.spec
-    flag-before-requires
+    flag-ticks-requires
     ticked-requires
     shared-slice-read-open-frame
     open-frame-requires

@@ -1,7 +1,8 @@
+-- `reading::both::pending_in_both` meets its contract: each return by the facts on its way. Assumes nothing.
 use Rattle.reading.proofs.Branch.{tests}
 use Rattle.channel.specs.Events.{pendingIn}
-use Rattle.reading.proofs.sources.pending_in_both.Statement.{statement}
-use Rattle.reading.proofs.sources.pending_in_both.Tie as tie
+use Rattle.reading.proofs.both.pending_in_both.Statement.{statement}
+use Rattle.reading.proofs.both.pending_in_both.Tie as tie
 
 pending-requires : tie.Need-pending-requires
 pending-requires c κs = tt

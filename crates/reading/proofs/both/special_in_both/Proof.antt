@@ -1,7 +1,8 @@
+-- `reading::both::special_in_both` meets its contract: each return by the facts on its way. Assumes nothing.
 use Rattle.reading.proofs.Branch.{tests}
 use Rattle.channel.specs.Events.{specialWaits}
-use Rattle.reading.proofs.sources.special_in_both.Statement.{statement}
-use Rattle.reading.proofs.sources.special_in_both.Tie as tie
+use Rattle.reading.proofs.both.special_in_both.Statement.{statement}
+use Rattle.reading.proofs.both.special_in_both.Tie as tie
 
 special-waits-requires : tie.Need-special-waits-requires
 special-waits-requires c κs = tt

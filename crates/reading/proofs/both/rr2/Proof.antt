@@ -1,9 +1,7 @@
--- `chip::Chip::rr2` meets its contract: each return by the facts on its way. Assumes nothing.
-use Rattle.chip.proofs.Branch.{tests}
-use Rattle.chip.specs.Interrupts.{rr2}
-use Rattle.chip.specs.Interrupts.{pendingOf}
-use Rattle.chip.proofs.Chip.rr2.Statement.{statement}
-use Rattle.chip.proofs.Chip.rr2.Tie as tie
+-- `reading::both::rr2` meets its contract: each return by the facts on its way. Assumes nothing.
+use Rattle.reading.proofs.Branch.{tests}
+use Rattle.reading.proofs.both.rr2.Statement.{statement}
+use Rattle.reading.proofs.both.rr2.Tie as tie
 
 status-affects-requires : tie.Need-status-affects-requires
 status-affects-requires c κs = tt
@@ -21,7 +19,6 @@ vector-requires : tie.Need-vector-requires
 vector-requires c κs = tt
 
 returns : tie.Need-returns
-unfolding rr2 pendingOf
 returns c = simp (tests, ← c .before .special-in-both .ensures, ← c .before .before .highest .ensures, ← c .before .before .before .pending-in-both .ensures, ← c .before .before .before .before .status-affects .ensures) (c .vector .ensures)
 
 pub rr2-spec : {M : Type 1} → statement M

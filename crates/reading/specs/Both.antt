@@ -1,0 +1,49 @@
+-- 01, Interrupts and external status: the sources of two channels, RR2, and what an acknowledge
+-- takes. Assumes nothing.
+use mathlib.Core.Bool.{Bool, _&&_}
+use Prim.Native.Nat.{ℕ}
+use lib.Dec.{eqb}
+use Rattle.common.specs.Choice.{if_then_else_}
+use Rattle.interrupts.specs.declared.Six.{Six}
+use Rattle.interrupts.specs.Interrupts.{six, highest, mayTake, acknowledged, ended}
+use Rattle.vector.specs.declared.Special.{Special}
+use Rattle.vector.specs.Vector.{vectorOf, ackedBy}
+use Rattle.settings.specs.Settings.{commandIn, statusAffects}
+use Rattle.channel.specs.declared.Channel.{Channel}
+use Rattle.channel.specs.Events.{specialWaits, pendingIn}
+use Rattle.reading.specs.declared.Taking.{Taking}
+
+-- The six sources: those that are pending, and those in service
+
+abbrev pub pendingBoth : Channel → Channel → Six
+pendingBoth a b = six (pendingIn a) (pendingIn b)
+
+abbrev pub serviceBoth : Channel → Channel → Six
+serviceBoth a b = six (a .service) (b .service)
+
+-- WR0's command "7 as RETI (A only, none in B)": those in service under A's write
+abbrev pub endsService : Channel → ℕ → Bool
+endsService a v = eqb (a .pointer) 0 && eqb (commandIn v) 7
+
+abbrev pub serviceUnder : Channel → Channel → ℕ → Six
+serviceUnder a b v = if endsService a v then ended (serviceBoth a b) else serviceBoth a b
+
+-- What is read and taken of them
+
+abbrev pub specialBoth : Channel → Channel → Special
+specialBoth a b = record { a = specialWaits a; b = specialWaits b }
+
+-- "RR2 that of the highest pending"; "WR2: vector, B only", "D2 status affects vector (B)"
+abbrev pub vectorBoth : Channel → Channel → ℕ
+vectorBoth a b =
+    vectorOf (b .registers .wr2) (statusAffects (b .registers .wr1)) (highest (pendingBoth a b))
+    (specialBoth a b)
+
+-- "Acknowledge puts the highest source in service and leaves it pending"; it "gives the vector of
+-- the source it takes", which is the highest pending
+abbrev pub taking : Six → Six → ℕ → Taking
+taking pending service vector =
+    record {
+      acked = ackedBy (mayTake pending service) vector;
+      service = acknowledged pending service;
+    }

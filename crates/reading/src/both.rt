@@ -1,0 +1,95 @@
+// 01, Interrupts: the sources of two channels, A's and B's, what is read of them, and what an acknowledge takes. Assumes nothing.
+use crate::Taking;
+use crate::control_read;
+use crate::sources::pending;
+use crate::sources::special_waits;
+use channel::Answered;
+use channel::Channel;
+use interrupts::Six;
+use interrupts::acknowledge;
+use interrupts::may_take;
+use settings::command_in;
+use settings::status_affects;
+use vector::Acked;
+use vector::Special;
+use vector::vector;
+ghost use mathlib.Core.Path.{_≡_};
+ghost use mathlib.Core.Bool.{false};
+ghost use Rattle.interrupts.specs.Interrupts.{anyOf};
+ghost use Rattle.channel.specs.Control.{controlRead};
+ghost use Rattle.reading.specs.Both.{pendingBoth, serviceBoth, serviceUnder, specialBoth, vectorBoth, taking};
+
+pub fn pending_in_both(a: Channel, b: Channel) -> Six
+    ensures { λ r. ⌜ r ≡ pendingBoth a b ⌝ }
+{
+    Six {
+        a: pending(a),
+        b: pending(b),
+    }
+}
+
+pub fn service_in_both(a: Channel, b: Channel) -> Six
+    ensures { λ r. ⌜ r ≡ serviceBoth a b ⌝ }
+{
+    let x = a.service;
+    let y = b.service;
+    Six { a: x, b: y }
+}
+
+// Those in service under A's control write: WR0's command 7 ends one.
+pub fn service_under(a: Channel, b: Channel, v: u8) -> Six
+    ensures { λ r. ⌜ r ≡ serviceUnder a b v ⌝ }
+{
+    let s = service_in_both(a, b);
+    if (a.pointer == 0) & (command_in(v) == Channel::END_SERVICE) {
+        return s.reti();
+    }
+    s
+}
+
+// Which of the two has a special oldest entry.
+pub fn special_in_both(a: Channel, b: Channel) -> Special
+    ensures { λ r. ⌜ r ≡ specialBoth a b ⌝ }
+{
+    Special {
+        a: special_waits(a),
+        b: special_waits(b),
+    }
+}
+
+// RR2.
+pub fn rr2(a: Channel, b: Channel) -> u8
+    ensures { λ r. ⌜ r ≡ vectorBoth a b ⌝ }
+{
+    vector(
+        b.registers.wr2,
+        status_affects(b.registers.wr1),
+        pending_in_both(a, b).highest(),
+        special_in_both(a, b),
+    )
+}
+
+// A's control read, which shows whether any source is pending; and B's, which shows RR2.
+pub fn control_read_a(a: Channel, b: Channel) -> Answered
+    ensures { λ r. ⌜ r ≡ controlRead a (anyOf (pendingBoth a b)) 0 ⌝ }
+{
+    control_read(a, pending_in_both(a, b).any(), 0)
+}
+
+pub fn control_read_b(a: Channel, b: Channel) -> Answered
+    ensures { λ r. ⌜ r ≡ controlRead b false (vectorBoth a b) ⌝ }
+{
+    control_read(b, false, rr2(a, b))
+}
+
+// Acknowledge.
+pub fn acknowledging(a: Channel, b: Channel) -> Taking
+    ensures { λ r. ⌜ r ≡ taking (pendingBoth a b) (serviceBoth a b) (vectorBoth a b) ⌝ }
+{
+    let p = pending_in_both(a, b);
+    let s = service_in_both(a, b);
+    Taking {
+        acked: Acked::by(may_take(p, s), rr2(a, b)),
+        service: acknowledge(p, s),
+    }
+}
