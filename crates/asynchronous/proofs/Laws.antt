@@ -1,18 +1,17 @@
 -- The definitions as the code meets them: a character's bits as one number. Assumes nothing.
-use Prim.Native.Nat.{ℕ, zero, suc, _+_, _*_, _-_, _/_, _%_, _^_, _<_, _≤_}
+use Prim.Native.Nat.{ℕ, zero, suc, _+_, _*_, _-_, _/_, _%_, _^_, _≤_}
 use mathlib.Core.Path.{_≡_, refl, sym, ap, ap₂, _∙_}
 use mathlib.Core.Bool.{Bool, true, false}
-use mathlib.Core.List.{List, [], _∷_, _++_}
+use mathlib.Core.List.{List, _∷_, _++_}
 use native.Mathlib.Omega.{arith}
-use native.Mathlib.Numerals.{sub-one}
 use native.Mathlib.Nat.{mul-assoc, pow-suc, zero-lt-suc}
 use lib.Arith.{mod-mul}
 use lib.Pow.{pow-pos}
 use lib.Dec.{eqb}
 use lib.ListN.{length, length-append}
 use mir.Val.{boolByte}
-use Rattle.common.specs.Tools.{two-cases, if-elim}
-use Rattle.line.specs.Bits.{odd, oneIf, lowBits}
+use Rattle.common.specs.Tools.{if-elim}
+use Rattle.line.specs.Bits.{oneIf, lowBits}
 use Rattle.line.specs.Laws.Bits.{lowBits-length, odd-is}
 use Rattle.line.specs.Bits.{fromLow}
 use Rattle.asynchronous.specs.declared.Typing.{Typing}

@@ -19,7 +19,7 @@ use Rattle.shared.specs.Shared.{shared}
 use Rattle.sdlc.specs.declared.LineUnit.{LineUnit}
 use Rattle.sdlc.specs.declared.LineUnit.the-variants.{Mark, Flag, Byte, Check, Abort}
 use Rattle.sdlc.specs.declared.Framer.{Framer}
-use Rattle.sdlc.specs.Sending.{insertion, notCounted, framer, framed, flagBit, tickSdlc}
+use Rattle.sdlc.specs.Sending.{insertion, notCounted, framer, framed, tickSdlc}
 use Rattle.sdlc.specs.Laws.Tick.{tick-owed, tick-flag, tick-byte, tick-check}
 use Rattle.sdlc.specs.Laws.Tick.{tick-chooses, next-flag-full, next-flag-empty, next-byte-full}
 use Rattle.sdlc.specs.Laws.Tick.{next-byte-check, next-check}
@@ -117,52 +117,45 @@ none-passes true full over h = refl
 none-passes false true over h = refl
 none-passes false false over h = h refl
 
-module _ (u v : LineUnit) (i j : Insertion) (x : Shared) (sent : Bool)
-    (ticks : tickSdlc good (framer u i x) ≡ framed sent false (framer v j x))
-    (going : Going (framer v j x)) (within : x .latch ≡ false → flagOver u ≡ false)
-    (may-be : (n : ℕ) (bytes : List ℕ) → may (x .latch) n bytes v → may (x .latch) n bytes u)
-    (head : (n : ℕ) (bytes : List ℕ) → may (x .latch) n bytes v
+kept-buffer : {u v : LineUnit} {i j : Insertion} {x : Shared} {sent : Bool}
+    → tickSdlc good (framer u i x) ≡ framed sent false (framer v j x)
+    → Going (framer v j x) → (x .latch ≡ false → flagOver u ≡ false)
+    → ((n : ℕ) (bytes : List ℕ) → may (x .latch) n bytes v → may (x .latch) n bytes u)
+    → ((n : ℕ) (bytes : List ℕ) → may (x .latch) n bytes v
     → comes i (x .latch) (x .check) n bytes u ≡ sent ∷ comes j (x .latch) (x .check) n bytes v)
-    (inside : flagLeft u ≤ 7 → flagLeft v ≤ 7) (one-less : flagLeft u ≤ suc (flagLeft v))
-    (opens : unopened (framer u i x) ≡ true → unopened (framer v j x) ≡ false → ⊥) where
-  abbrev was : Framer
-  was = framer u i x
-
-  abbrev is : Framer
-  is = framer v j x
-
-  kept-buffer : Steps was
-  kept-buffer =
-      let none : leaves was is ≡ [] = none-leaves (x .full) (x .buffer) in
-      let same : idles was ≡ false =
-      none-passes (x .latch) (x .full) (flagOver u) within in
-      record {
-        sent = sent;
-        load = false;
-        next = is;
-        ticks = ticks;
-        going = going;
-        may-be = λ n bytes m.
-            subst (λ (p : Bool). May was (onMore p n) (leaves was is ++ bytes)) (sym same)
-            (subst (λ (l : List ℕ). May was n (l ++ bytes)) (sym none) (may-be n bytes m));
-        head = λ n bytes m.
-            ap₂ (λ (p : Bool) (l : List ℕ). ahead was (onMore p n) (l ++ bytes)) same none
-            ∙ head n bytes m;
-        kept = λ rest h. ap (λ (l : List ℕ). l ++ meant is rest) none;
-        inside = inside;
-        few = λ n t bytes m l h.
-            subst (λ (p : Bool). 8 * onMore p n + flagLeft u ≤ suc t + 7) (sym same)
-            (omega (arith, one-less));
-        first = λ o p. absurd (opens o p);
-      }
+    → (flagLeft u ≤ 7 → flagLeft v ≤ 7) → flagLeft u ≤ suc (flagLeft v)
+    → (unopened (framer u i x) ≡ true → unopened (framer v j x) ≡ false → ⊥)
+    → Steps (framer u i x)
+kept-buffer {u} {v} {i} {j} {x} {sent} ticks going within may-be head inside one-less opens =
+    let was : Framer = framer u i x in
+    let is : Framer = framer v j x in
+    let none : leaves was is ≡ [] = none-leaves (x .full) (x .buffer) in
+    let same : idles was ≡ false = none-passes (x .latch) (x .full) (flagOver u) within in
+    record {
+      sent = sent;
+      load = false;
+      next = is;
+      ticks = ticks;
+      going = going;
+      may-be = λ n bytes m.
+          subst (λ (p : Bool). May was (onMore p n) (leaves was is ++ bytes)) (sym same)
+          (subst (λ (l : List ℕ). May was n (l ++ bytes)) (sym none) (may-be n bytes m));
+      head = λ n bytes m.
+          ap₂ (λ (p : Bool) (l : List ℕ). ahead was (onMore p n) (l ++ bytes)) same none
+          ∙ head n bytes m;
+      kept = λ rest h. ap (λ (l : List ℕ). l ++ meant is rest) none;
+      inside = inside;
+      few = λ n t bytes m l h.
+          subst (λ (p : Bool). 8 * onMore p n + flagLeft u ≤ suc t + 7) (sym same)
+          (omega (arith, one-less));
+      first = λ o p. absurd (opens o p);
+    }
 
 pub steps : {s : Framer} → Going s → frameEnded s ≡ false → Steps s
 unfolding flags
 steps (opening (suc k) b f c) e =
-    let x = shared b f false c in
-    kept-buffer (Flag (suc k)) (Flag k) notCounted notCounted x (flagBit (suc k))
-    (tick-flag good x k 0) (opening k b f c) (λ l. eqb·suc-zero k) (λ n bytes m. tt)
-    (λ n bytes m. refl) (λ h. omega arith) (omega arith) (λ o p. void (sym p))
+    kept-buffer (tick-flag good (shared b f false c) k 0) (opening k b f c) (λ l. eqb·suc-zero k)
+    (λ n bytes m. tt) (λ n bytes m. refl) (λ h. omega arith) (omega arith) (λ o p. void (sym p))
 steps (opening zero b true c) e =
     let x = shared b true false c in
     let d = checkOver sdlc c (lowBits 8 b) in
@@ -198,16 +191,12 @@ steps (opening zero b false c) e =
       first = λ o u. void (sym u);
     }
 steps (inByte k v r true b f c) e =
-    let x = shared b f false c in
-    kept-buffer (Byte k v) (Byte k v) (insertion r true) (insertion r false) x false
-    (tick-owed good x (Byte k v) r) (inByte k v r false b f c) (λ l. refl) (λ n bytes m. m)
-    (λ n bytes m. refl) (λ h. h) (omega arith) (λ o p. void o)
+    kept-buffer (tick-owed good (shared b f false c) (Byte k v) r) (inByte k v r false b f c)
+    (λ l. refl) (λ n bytes m. m) (λ n bytes m. refl) (λ h. h) (omega arith) (λ o p. void o)
 steps (inByte (suc k) v r false b f c) e =
-    let x = shared b f false c in
-    let i = insertion (runAfter r (odd v)) (owes r (odd v)) in
-    kept-buffer (Byte (suc k) v) (Byte k (v / 2)) (insertion r false) i x (odd v)
-    (tick-byte good x k v r) (inByte k (v / 2) (i .run) (i .owed) b f c) (λ l. refl)
-    (λ n bytes m. m) (λ n bytes m. byte-on r c k v bytes) (λ h. h) (omega arith) (λ o p. void o)
+    kept-buffer (tick-byte good (shared b f false c) k v r)
+    (inByte k (v / 2) (runAfter r (odd v)) (owes r (odd v)) b f c) (λ l. refl) (λ n bytes m. m)
+    (λ n bytes m. byte-on r c k v bytes) (λ h. h) (omega arith) (λ o p. void o)
 steps (inByte zero v r false b true c) e =
     let x = shared b true false c in
     let d = checkOver sdlc c (lowBits 8 b) in
@@ -244,27 +233,20 @@ steps (inByte zero v r false b false c) e =
       first = λ o u. void o;
     }
 steps (inCheck k v r true b f c) e =
-    let x = shared b f true c in
-    kept-buffer (Check k v) (Check k v) (insertion r true) (insertion r false) x false
-    (tick-owed good x (Check k v) r) (inCheck k v r false b f c) (λ l. refl) (λ n bytes m. m)
-    (λ n bytes m. refl) (λ h. h) (omega arith) (λ o p. void o)
+    kept-buffer (tick-owed good (shared b f true c) (Check k v) r) (inCheck k v r false b f c)
+    (λ l. refl) (λ n bytes m. m) (λ n bytes m. refl) (λ h. h) (omega arith) (λ o p. void o)
 steps (inCheck (suc k) v r false b f c) e =
-    let x = shared b f true c in
-    let i = insertion (runAfter r (top v)) (owes r (top v)) in
-    kept-buffer (Check (suc k) v) (Check k (shifted v)) (insertion r false) i x (top v)
-    (tick-check good x k v r) (inCheck k (shifted v) (i .run) (i .owed) b f c) (λ l. refl)
+    kept-buffer (tick-check good (shared b f true c) k v r)
+    (inCheck k (shifted v) (runAfter r (top v)) (owes r (top v)) b f c) (λ l. refl)
     (λ n bytes m. m)
     (λ n bytes m. unfold topBits in (stuffed r (top v) (topBits k (shifted v)) flagBits))
     (λ h. h) (omega arith) (λ o p. void o)
 steps (inCheck zero v r false b f c) e =
     let x = shared b f true c in
-    kept-buffer (Check 0 v) (Flag 7) (insertion r false) notCounted x false
-    (tick-chooses good r x (Check 0 v) refl ∙ next-check good r x refl 0 v) (closing 7 b f c)
-    (λ l. refl) (λ n bytes m. m) (λ n bytes m. unfold topBits stuff in refl) (λ h. omega arith)
-    (omega arith) (λ o p. void o)
+    kept-buffer (tick-chooses good r x (Check 0 v) refl ∙ next-check good r x refl 0 v)
+    (closing 7 b f c) (λ l. refl) (λ n bytes m. m) (λ n bytes m. unfold topBits stuff in refl)
+    (λ h. omega arith) (omega arith) (λ o p. void o)
 steps (closing (suc k) b f c) e =
-    let x = shared b f true c in
-    kept-buffer (Flag (suc k)) (Flag k) notCounted notCounted x (flagBit (suc k))
-    (tick-flag good x k 0) (closing k b f c) (λ l. void (sym l)) (λ n bytes m. m)
-    (λ n bytes m. refl) (λ h. omega arith) (omega arith) (λ o p. void o)
+    kept-buffer (tick-flag good (shared b f true c) k 0) (closing k b f c) (λ l. void (sym l))
+    (λ n bytes m. m) (λ n bytes m. refl) (λ h. omega arith) (omega arith) (λ o p. void o)
 steps (closing zero b f c) e = void (sym e)

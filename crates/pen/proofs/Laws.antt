@@ -12,7 +12,7 @@ use Rattle.line.specs.Insertion.{counted, stuff, runOver}
 use Rattle.line.specs.Frame.{flagBits}
 use Rattle.line.specs.Laws.Bits.{low-step, low-none, odd-is}
 use Rattle.pen.specs.declared.Pen.{Pen}
-use Rattle.pen.specs.Pen.{Sheet, sheet, penAt, bitsPut}
+use Rattle.pen.specs.Pen.{sheet, penAt, bitsPut}
 
 module _ (out : List ℕ) (p : Pen) (v : ℕ) (k : Insertion) (e : k ≡ counted (p .run) (odd v)) where
   pub two-long : k .owed ≡ true → length (stuff (p .run) (odd v ∷ [])) ≡ 2

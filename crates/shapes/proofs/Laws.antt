@@ -1,5 +1,5 @@
 -- The rule as the code meets it: shape by shape, the shorter first. Assumes nothing.
-use mathlib.Core.Path.{_≡_, refl, sym}
+use mathlib.Core.Path.{_≡_, refl}
 use mathlib.Core.Logic.{_≢_}
 use Prim.Native.Nat.{ℕ, _/_}
 use lib.Dec.{eqb}

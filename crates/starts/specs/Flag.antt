@@ -13,7 +13,7 @@ use Rattle.sdlc.specs.declared.LineUnit.{LineUnit}
 use Rattle.sdlc.specs.declared.LineUnit.the-variants.{Mark, Flag, Byte, Check, Abort}
 use Rattle.sdlc.specs.declared.Framing.{Framing}
 use Rattle.sdlc.specs.declared.Framed.{Framed}
-use Rattle.sdlc.specs.Sending.{insertion, notCounted, framer, flagBit, tickSdlc}
+use Rattle.sdlc.specs.Sending.{insertion, notCounted, framer, startFlag, flagBit, tickSdlc}
 use Rattle.sdlc.specs.Sound.{SoundUnit}
 use Rattle.sdlc.specs.Laws.Tick.{tick-flag, tick-chooses, next-mark, next-abort, next-check}
 use Rattle.sdlc.specs.Laws.Tick.{next-flag-empty}
@@ -71,26 +71,22 @@ record Begun (t : Framed) : Type 0 where
   pub unit : t .framer .unit ≡ Flag 7
   pub counted : t .framer .insertion ≡ notCounted
 
-begun-by : {s t : Framed} → s ≡ t → Begun t → Begun s
-begun-by e b = subst Begun (sym e) b
+begun-by : {t : Framed} {k : Shared} → t ≡ startFlag k → Begun t
+begun-by e = subst Begun (sym e) (record { bit = refl; unit = refl; counted = refl })
 
 begins : (g : Framing) (u : LineUnit) (r : ℕ) (k : Shared) → g .on ≡ true
     → flagNext (g .included) k u ≡ true
     → Begun (tickSdlc g (framer u (insertion r false) k))
 begins g Mark r k o n =
     begun-by (tick-chooses g r k Mark refl ∙ next-mark g r k o)
-    (record { bit = refl; unit = refl; counted = refl })
 begins g (Abort m) r k o n =
     begun-by (tick-chooses g r k (Abort m) n ∙ next-abort g r k o m)
-    (record { bit = refl; unit = refl; counted = refl })
 begins g (Check m v) r k o n =
     begun-by (tick-chooses g r k (Check m v) n ∙ next-check g r k o m v)
-    (record { bit = refl; unit = refl; counted = refl })
 begins g (Flag m) r k o n =
     let z = both-left (eqb m 0) (not (k .full)) n in
     let f = not-true (k .full) (both-right (eqb m 0) (not (k .full)) n) in
     begun-by (tick-chooses g r k (Flag m) z ∙ next-flag-empty g r k o m f)
-    (record { bit = refl; unit = refl; counted = refl })
 begins g (Byte m v) r k o n =
     let c = not (k .latch) && g .included in
     let z = both-left (eqb m 0) (not (k .full) && not c) n in
@@ -98,7 +94,6 @@ begins g (Byte m v) r k o n =
     let f = not-true (k .full) (both-left (not (k .full)) (not c) y) in
     let i = not-true c (both-right (not (k .full)) (not c) y) in
     begun-by (tick-chooses g r k (Byte m v) z ∙ next-byte-flag g r k o m v f i)
-    (record { bit = refl; unit = refl; counted = refl })
 
 -- The flag goes on
 

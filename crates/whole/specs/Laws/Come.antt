@@ -17,7 +17,7 @@ use Rattle.line.specs.Laws.Check.{check-join}
 use Rattle.shared.specs.Shared.{shared}
 use Rattle.sdlc.specs.declared.LineUnit.the-variants.{Flag, Byte, Check, Abort}
 use Rattle.sdlc.specs.declared.Framer.{Framer}
-use Rattle.sdlc.specs.Sending.{insertion, notCounted, framer, framed, flagBit, tickSdlc}
+use Rattle.sdlc.specs.Sending.{framed, tickSdlc}
 use Rattle.sdlc.specs.Laws.Tick.{tick-owed, tick-flag, tick-byte, tick-check, tick-abort}
 use Rattle.sdlc.specs.Laws.Tick.{tick-chooses, next-flag-full, next-byte-full, next-byte-check}
 use Rattle.sdlc.specs.Laws.Tick.{next-check, next-abort}
@@ -86,142 +86,72 @@ pub record Takes (a : Bool) (s : Framer) (n : ℕ) (rest : List ℕ) : Type 0 wh
   pub head : toCome s rest ≡ sent ∷ toCome next rest
   pub stage : Stage a next (sinceAfter (s .shared .full) (next .shared .full) n) rest
 
+module _ {a : Bool} {s : Framer} {n : ℕ} {rest : List ℕ} where
+  by : {sent loaded : Bool} {next : Framer} → tickSdlc good s ≡ framed sent loaded next
+      → toCome s rest ≡ sent ∷ toCome next rest
+      → Stage a next (sinceAfter (s .shared .full) (next .shared .full) n) rest → Takes a s n rest
+  by {sent} {loaded} {next} e h g = record {
+    sent = sent;
+    loaded = loaded;
+    next = next;
+    ticks = e;
+    head = h;
+    stage = g;
+  }
+
 pub takes : {a : Bool} {s : Framer} {n : ℕ} {rest : List ℕ} → Stage a s n rest
     → inTime (s .shared .full) n rest ≡ true → 1 ≤ length (toCome s rest) → Takes a s n rest
 takes (opening (suc k) b f c n rest m p) t l =
-    let x = shared b f false c in
-    record {
-      sent = flagBit (suc k);
-      loaded = false;
-      next = framer (Flag k) notCounted x;
-      ticks = tick-flag good x k 0;
-      head = refl;
-      stage = opening k b f c (sinceAfter f f n) rest (rw (since-same f n) (omega arith)) p;
-    }
+    by (tick-flag good (shared b f false c) k 0) refl
+    (opening k b f c (sinceAfter f f n) rest (rw (since-same f n) (omega arith)) p)
 takes (opening zero b true c n rest m p) t l =
     let x = shared b true false c in
     let d = checkOver sdlc c (lowBits 8 b) in
-    let i = insertion (runAfter 0 (odd b)) (owes 0 (odd b)) in
-    record {
-      sent = odd b;
-      loaded = true;
-      next = framer (Byte 7 (b / 2)) i (shared b false false d);
-      ticks = tick-chooses good 0 x (Flag 0) refl ∙ next-flag-full good 0 x refl 0 refl;
-      head = load 0 c b rest;
-      stage = inByte 7 (b / 2) (i .run) (i .owed) b false d 0 rest (omega arith);
-    }
+    by (tick-chooses good 0 x (Flag 0) refl ∙ next-flag-full good 0 x refl 0 refl) (load 0 c b rest)
+    (inByte 7 (b / 2) (runAfter 0 (odd b)) (owes 0 (odd b)) b false d 0 rest (omega arith))
 takes (opening zero b false c n [] m p) t l = absurd p
 takes (opening zero b false c n (v ∷ rest) m p) t l = absurd (too-late n t (omega arith))
 takes (inByte k v r true b f c n rest m) t l =
-    let x = shared b f false c in
-    record {
-      sent = false;
-      loaded = false;
-      next = framer (Byte k v) (insertion r false) x;
-      ticks = tick-owed good x (Byte k v) r;
-      head = refl;
-      stage = inByte k v r false b f c (sinceAfter f f n) rest (rw (since-same f n) (omega arith));
-    }
+    by (tick-owed good (shared b f false c) (Byte k v) r) refl
+    (inByte k v r false b f c (sinceAfter f f n) rest (rw (since-same f n) (omega arith)))
 takes (inByte (suc k) v r false b f c n rest m) t l =
     let x = shared b f false c in
-    let i = insertion (runAfter r (odd v)) (owes r (odd v)) in
-    record {
-      sent = odd v;
-      loaded = false;
-      next = framer (Byte k (v / 2)) i x;
-      ticks = tick-byte good x k v r;
-      head = byte-on r c k v (waiting x rest);
-      stage = inByte k (v / 2) (i .run) (i .owed) b f c (sinceAfter f f n) rest
-          (rw (since-same f n) (omega arith));
-    }
+    by (tick-byte good x k v r) (byte-on r c k v (waiting x rest))
+    (inByte k (v / 2) (runAfter r (odd v)) (owes r (odd v)) b f c (sinceAfter f f n) rest
+    (rw (since-same f n) (omega arith)))
 takes (inByte zero v r false b true c n rest m) t l =
     let x = shared b true false c in
     let d = checkOver sdlc c (lowBits 8 b) in
-    let i = insertion (runAfter r (odd b)) (owes r (odd b)) in
-    record {
-      sent = odd b;
-      loaded = true;
-      next = framer (Byte 7 (b / 2)) i (shared b false false d);
-      ticks = tick-chooses good r x (Byte 0 v) refl ∙ next-byte-full good r x refl 0 v refl;
-      head = unfold lowBits in (load r c b rest);
-      stage = inByte 7 (b / 2) (i .run) (i .owed) b false d 0 rest (omega arith);
-    }
+    by (tick-chooses good r x (Byte 0 v) refl ∙ next-byte-full good r x refl 0 v refl)
+    (unfold lowBits in (load r c b rest))
+    (inByte 7 (b / 2) (runAfter r (odd b)) (owes r (odd b)) b false d 0 rest (omega arith))
 takes (inByte zero v r false b false c n [] m) t l =
     let x = shared b false false c in
     let y = complement c in
-    let i = insertion (runAfter r (top y)) (owes r (top y)) in
-    record {
-      sent = top y;
-      loaded = false;
-      next = framer (Check 15 (shifted y)) i (shared b false true c);
-      ticks =
-          tick-chooses good r x (Byte 0 v) refl ∙ next-byte-check good r x refl 0 v refl refl refl;
-      head = unfold lowBits in (check-starts r c);
-      stage = inCheck 15 (shifted y) (i .run) (i .owed) b false c (n + 1);
-    }
+    by (tick-chooses good r x (Byte 0 v) refl ∙ next-byte-check good r x refl 0 v refl refl refl)
+    (unfold lowBits in (check-starts r c))
+    (inCheck 15 (shifted y) (runAfter r (top y)) (owes r (top y)) b false c (n + 1))
 takes (inByte zero v r false b false c n (x ∷ rest) m) t l = absurd (too-late n t (omega arith))
 takes (inCheck k v r true b f c n) t l =
-    let x = shared b f true c in
-    record {
-      sent = false;
-      loaded = false;
-      next = framer (Check k v) (insertion r false) x;
-      ticks = tick-owed good x (Check k v) r;
-      head = refl;
-      stage = inCheck k v r false b f c (sinceAfter f f n);
-    }
+    by (tick-owed good (shared b f true c) (Check k v) r) refl
+    (inCheck k v r false b f c (sinceAfter f f n))
 takes (inCheck (suc k) v r false b f c n) t l =
-    let x = shared b f true c in
-    let i = insertion (runAfter r (top v)) (owes r (top v)) in
-    record {
-      sent = top v;
-      loaded = false;
-      next = framer (Check k (shifted v)) i x;
-      ticks = tick-check good x k v r;
-      head = unfold topBits in (stuffed r (top v) (topBits k (shifted v)) flagBits);
-      stage = inCheck k (shifted v) (i .run) (i .owed) b f c (sinceAfter f f n);
-    }
+    by (tick-check good (shared b f true c) k v r)
+    (unfold topBits in (stuffed r (top v) (topBits k (shifted v)) flagBits))
+    (inCheck k (shifted v) (runAfter r (top v)) (owes r (top v)) b f c (sinceAfter f f n))
 takes (inCheck zero v r false b f c n) t l =
     let x = shared b f true c in
-    record {
-      sent = false;
-      loaded = false;
-      next = framer (Flag 7) notCounted x;
-      ticks = tick-chooses good r x (Check 0 v) refl ∙ next-check good r x refl 0 v;
-      head = unfold topBits stuff in refl;
-      stage = closing 7 b f c (sinceAfter f f n);
-    }
+    by (tick-chooses good r x (Check 0 v) refl ∙ next-check good r x refl 0 v)
+    (unfold topBits stuff in refl) (closing 7 b f c (sinceAfter f f n))
 takes (closing (suc k) b f c n) t l =
-    let x = shared b f true c in
-    record {
-      sent = flagBit (suc k);
-      loaded = false;
-      next = framer (Flag k) notCounted x;
-      ticks = tick-flag good x k 0;
-      head = refl;
-      stage = closing k b f c (sinceAfter f f n);
-    }
+    by (tick-flag good (shared b f true c) k 0) refl (closing k b f c (sinceAfter f f n))
 takes (closing zero b f c n) t l = absurd (omega arith)
 takes (cutOff (suc k) b f c n) t l =
-    let x = shared b f true c in
-    record {
-      sent = true;
-      loaded = false;
-      next = framer (Abort k) notCounted x;
-      ticks = tick-abort good x k 0;
-      head = refl;
-      stage = cutOff k b f c (sinceAfter f f n);
-    }
+    by (tick-abort good (shared b f true c) k 0) refl (cutOff k b f c (sinceAfter f f n))
 takes (cutOff zero b f c n) t l =
     let x = shared b f true c in
-    record {
-      sent = false;
-      loaded = false;
-      next = framer (Flag 7) notCounted x;
-      ticks = tick-chooses good 0 x (Abort 0) refl ∙ next-abort good 0 x refl 0;
-      head = refl;
-      stage = closing 7 b f c (sinceAfter f f n);
-    }
+    by (tick-chooses good 0 x (Abort 0) refl ∙ next-abort good 0 x refl 0) refl
+    (closing 7 b f c (sinceAfter f f n))
 
 -- Writes
 
