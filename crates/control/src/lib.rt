@@ -44,26 +44,22 @@ fn commanded(mut c: Channel, command: u8) -> Channel
     match command {
         Channel::SEND_ABORT => {
             c.sender = c.sender.send_abort(c.registers.sending(c.lines));
-            c
         }
         Channel::RESET_STATUS => {
             c.status = c.status.afresh(c.live());
-            c
         }
         Channel::ARM_FIRST_CHARACTER => {
             c.armed = true;
-            c
         }
         Channel::RESET_TRANSMIT => {
             c.transmit = false;
-            c
         }
         Channel::ERROR_RESET => {
             c.queue = c.queue.error_reset();
-            c
         }
-        _ => c,
+        _ => {}
     }
+    c
 }
 
 // WR0's D7-6.
@@ -73,18 +69,16 @@ fn preset(mut c: Channel, code: u8) -> Channel
     match code {
         Channel::PRESET_RECEIVE_CHECK => {
             c.receiver = c.receiver.preset_check(c.registers.mode());
-            c
         }
         Channel::PRESET_TRANSMIT_CHECK => {
             c.sender = c.sender.preset_check(c.registers.mode());
-            c
         }
         Channel::CLEAR_UNDERRUN => {
             c.sender = c.sender.clear_latch();
-            c
         }
-        _ => c,
+        _ => {}
     }
+    c
 }
 
 fn command_step(c: Channel, v: u8) -> Channel
@@ -123,12 +117,12 @@ fn set_wr2(mut c: Channel, w: Side, v: u8) -> Channel
     ensures { λ r. ⌜ r ≡ setWr2 c w v ⌝ }
 {
     match w {
-        Side::A => c,
+        Side::A => {}
         Side::B => {
             c.registers.wr2 = v;
-            c
         }
     }
+    c
 }
 
 fn set_wr3(mut c: Channel, v: u8) -> Channel
@@ -137,7 +131,6 @@ fn set_wr3(mut c: Channel, v: u8) -> Channel
     c.registers.wr3 = v;
     if enters_hunt(v) & hunts(c.registers.mode()) {
         c.receiver = c.receiver.enter_hunt();
-        return c;
     }
     c
 }
@@ -169,23 +162,29 @@ fn set_register(mut c: Channel, w: Side, p: u8, v: u8) -> Channel
     ensures { λ r. ⌜ r ≡ setRegister c w p v ⌝ }
 {
     match p {
-        1 => set_wr1(c, v),
-        2 => set_wr2(c, w, v),
-        3 => set_wr3(c, v),
-        4 => set_wr4(c, v),
+        1 => {
+            c = set_wr1(c, v);
+        }
+        2 => {
+            c = set_wr2(c, w, v);
+        }
+        3 => {
+            c = set_wr3(c, v);
+        }
+        4 => {
+            c = set_wr4(c, v);
+        }
         5 => {
             c.registers.wr5 = v;
-            c
         }
         6 => {
             c.registers.wr6 = v;
-            c
         }
         _ => {
             c.registers.wr7 = v;
-            c
         }
     }
+    c
 }
 
 // A register is written, the status rule run and the pointer used.
@@ -198,24 +197,23 @@ fn write_register(c: Channel, w: Side, v: u8) -> Channel
 }
 
 // A control write.
-pub fn control_write(c: Channel, w: Side, v: u8) -> Answered
+pub fn control_write(mut c: Channel, w: Side, v: u8) -> Answered
     ensures { λ r. ⌜ r ≡ controlWritten c w v ⌝ }
 {
     if c.pointer == 0 {
-        return Answered {
-            answer: Answer::Done,
-            channel: write_wr0(c, v),
-        };
-    }
-    if (c.pointer == 4) & not_built(v) {
-        return Answered {
-            answer: Answer::Refused(Refusal::Setting),
-            channel: c,
-        };
+        c = write_wr0(c, v);
+    } else {
+        if (c.pointer == 4) & not_built(v) {
+            return Answered {
+                answer: Answer::Refused(Refusal::Setting),
+                channel: c,
+            };
+        }
+        c = write_register(c, w, v);
     }
     Answered {
         answer: Answer::Done,
-        channel: write_register(c, w, v),
+        channel: c,
     }
 }
 

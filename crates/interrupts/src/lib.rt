@@ -41,17 +41,15 @@ impl Sources {
         match k {
             0 => {
                 self.receive = t;
-                self
             }
             1 => {
                 self.transmit = t;
-                self
             }
             _ => {
                 self.external = t;
-                self
             }
         }
+        self
     }
 }
 
@@ -94,9 +92,9 @@ impl Six {
     {
         if level < FIRST_OF_B {
             self.a = self.a.with_source(level, t);
-            return self;
+        } else {
+            self.b = self.b.with_source(level - FIRST_OF_B, t);
         }
-        self.b = self.b.with_source(level - FIRST_OF_B, t);
         self
     }
 

@@ -1,3 +1,4 @@
+-- `interrupts::may_take` meets its contract: each return by the facts on its way. Assumes nothing.
 use Rattle.interrupts.proofs.Branch.{tests}
 use Rattle.interrupts.specs.Interrupts.{mayTake}
 use Rattle.interrupts.proofs.may_take.Statement.{statement}

@@ -1,3 +1,4 @@
+-- `interrupts::Six::any` meets its contract: each return by the facts on its way. Assumes nothing.
 use Rattle.interrupts.proofs.Branch.{tests}
 use Rattle.interrupts.specs.Interrupts.{anyOf}
 use Rattle.interrupts.proofs.Six.any.Statement.{statement}

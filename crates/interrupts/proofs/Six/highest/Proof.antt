@@ -1,3 +1,4 @@
+-- `interrupts::Six::highest` meets its contract: each return by the facts on its way. Assumes nothing.
 use Rattle.interrupts.proofs.Branch.{tests}
 use Rattle.interrupts.specs.Interrupts.{highest}
 use Rattle.interrupts.proofs.Six.highest.Statement.{statement}

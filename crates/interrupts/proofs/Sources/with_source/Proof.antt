@@ -1,3 +1,4 @@
+-- `interrupts::Sources::with_source` meets its contract: each return by the facts on its way. Assumes nothing.
 use Rattle.interrupts.proofs.Branch.{tests}
 use Rattle.interrupts.proofs.Sources.with_source.Statement.{statement}
 use Rattle.interrupts.proofs.Sources.with_source.Tie as tie
