@@ -8,7 +8,8 @@ use Prim.Native.Nat.{ℕ}
 use Rattle.chip.specs.Event.{Event, SetLines}
 use Rattle.tales.specs.Tale.{Happens, telling, reads, bytes}
 use Rattle.tales.specs.Words.{command, set, hears, takes, resetStatus, oneStop, twoStops}
-use Rattle.tales.specs.Words.{oneStopOdd, oneStopEven, hearEight, hearing, char41, cut41, blank, ones}
+use Rattle.tales.specs.Words.{oneStopOdd, oneStopEven, hearEight, hearing, char41, cut41, blank}
+use Rattle.tales.specs.Words.{ones}
 use Rattle.hearing.specs.Happens.{happens}
 
 -- "Reset External/Status"

@@ -10,16 +10,16 @@ const CHANNEL_A: u8 = 0;
 // WR0: a command in D5-3, a preset or clearing in D7-6.
 pub(crate) const SEND_ABORT: u8 = 8 * Channel::SEND_ABORT;
 
-pub(crate) const RESET: u8 = 8 * Channel::CHANNEL_RESET;
+pub(crate) const CHANNEL_RESET: u8 = 8 * Channel::CHANNEL_RESET;
 
-pub(crate) const PRESET_CHECK: u8 = 64 * Channel::PRESET_TRANSMIT_CHECK;
+pub(crate) const PRESET_SENT: u8 = 64 * Channel::PRESET_TRANSMIT_CHECK;
 
-pub(crate) const CLEAR_LATCH: u8 = 64 * Channel::CLEAR_UNDERRUN;
+pub(crate) const CLEAR_UNDERRUN: u8 = 64 * Channel::CLEAR_UNDERRUN;
 
 // WR4: SDLC. WR5: eight bits, on, check included.
 pub(crate) const SDLC_MODE: u8 = 0b00100000;
 
-pub(crate) const ON_EIGHT_BITS: u8 = 0b01101001;
+pub(crate) const SEND_CHECKED: u8 = 0b01101001;
 
 // A control write.
 pub(crate) fn control(c: Chip, v: u8) -> Chip

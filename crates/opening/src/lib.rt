@@ -5,8 +5,8 @@ mod calling;
 mod putback;
 mod ready;
 
-use crate::calling::CLEAR_LATCH;
-use crate::calling::PRESET_CHECK;
+use crate::calling::CLEAR_UNDERRUN;
+use crate::calling::PRESET_SENT;
 use crate::calling::control;
 use crate::calling::write;
 use crate::putback::channel_with;
@@ -71,8 +71,8 @@ pub fn open_frame(mut c: Chip, v: u8) -> Chip
     ensures { λ r. ⌜ r ≡ frameOpened c v ⌝ }
 {
     c = flag_ended(c);
-    c = control(c, PRESET_CHECK);
-    c = control(c, CLEAR_LATCH);
+    c = control(c, PRESET_SENT);
+    c = control(c, CLEAR_UNDERRUN);
     write(c, v)
 }
 

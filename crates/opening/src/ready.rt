@@ -1,9 +1,9 @@
 // A station makes channel A of a chip ready for a note: nothing of a frame is under way, and one can be sent. Any chip is accepted, whatever its
 // channel A was doing. Assumes nothing.
-use crate::calling::ON_EIGHT_BITS;
-use crate::calling::RESET;
+use crate::calling::CHANNEL_RESET;
 use crate::calling::SDLC_MODE;
 use crate::calling::SEND_ABORT;
+use crate::calling::SEND_CHECKED;
 use crate::calling::control;
 use crate::calling::look;
 use chip::Chip;
@@ -46,11 +46,11 @@ fn stands_still(s: Sender) -> bool
 fn set_up(mut c: Chip) -> Chip
     ensures { λ r. ⌜ r ≡ setUp c ⌝ }
 {
-    c = control(c, RESET);
+    c = control(c, CHANNEL_RESET);
     c = control(c, 4);
     c = control(c, SDLC_MODE);
     c = control(c, 5);
-    control(c, ON_EIGHT_BITS)
+    control(c, SEND_CHECKED)
 }
 
 // A channel that can send stays as it is set, and a frame that is under way in it is aborted; any other is set up.

@@ -29,7 +29,10 @@ content-length note =
 
 -- demand 3: "8(n+2)+16+z ticks, z the zeros inserted, at most 8(n+2)/5 rounded down"
 pub ticks-are : (note : List ℕ) → ticksOf note ≡ 8 * (length note + 2) + 16 + zerosOf note
-ticks-are note = omega (arith, length-append (stuff 0 (contentOf note)) flagBits, stuff-length 0 (contentOf note), content-length note)
+ticks-are note =
+    let bits = contentOf note in
+    let whole = length-append (stuff 0 bits) flagBits in
+    omega (arith, whole, stuff-length 0 bits, content-length note)
 
 pub zeros-few : (note : List ℕ) → zerosOf note ≤ 8 * (length note + 2) / 5
 zeros-few note = omega (arith, zeros-bound 0 (contentOf note), content-length note)
