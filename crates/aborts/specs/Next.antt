@@ -19,6 +19,7 @@ use Rattle.sdlc.specs.Sending.{insertion, notCounted, framer, sentBit, tickSdlc
 use Rattle.sdlc.specs.Laws.Tick.{tick-abort, tick-chooses, next-abort}
 use Rattle.sender.specs.Sender.{framerOf, checkPreset, latchCleared}
 use Rattle.settings.specs.Settings.{modeIn}
+use Rattle.settings.specs.Bytes.{presetSent, clearUnderrun}
 use Rattle.chip.specs.declared.Chip.{Chip}
 use Rattle.chip.specs.Event.{Event, ControlWrite, DataWrite, Transmit}
 use Rattle.whole.specs.Come as come
@@ -167,8 +168,8 @@ pub after-abort : AbortFollowed
 unfolding after
 after-abort w c p xs ys v k q h =
     let d = happens (after c xs) (ControlWrite (number w) v) .chip in
-    let m = happens d (ControlWrite (number w) 0b10000000) .chip in
-    let n = happens m (ControlWrite (number w) 0b11000000) .chip in
+    let m = happens d (ControlWrite (number w) presetSent) .chip in
+    let n = happens m (ControlWrite (number w) clearUnderrun) .chip in
     let x = write-preset w d q in
     let y = write-clear w m (x .pointer) in
     let o = every-host w c p xs (k .start) (k .host) in

@@ -25,6 +25,7 @@ use Rattle.blocks.specs.Laws.Sent.{sync-length, closed-length}
 use Rattle.sender.specs.declared.Sender.{Sender}
 use Rattle.sender.specs.Sender.{checkPreset, latchCleared}
 use Rattle.settings.specs.Settings.{modeIn, sendingOf}
+use Rattle.settings.specs.Bytes.{presetSent, clearUnderrun}
 use Rattle.chip.specs.declared.Chip.{Chip}
 use Rattle.chip.specs.Event.{ControlWrite}
 use Rattle.stories.specs.Story.{Which, number, chan, happens, after}
@@ -91,10 +92,10 @@ starts : (w : Which) (c : Chip) (x : ℕ) → chan w c .sender .block ≡ Sync 0
     → Start w (after c (anew w)) (syncLength (syncsOf w c))
 unfolding after
 starts w c x u f p g =
-    let d = happens c (ControlWrite (number w) 0b10000000) .chip in
+    let d = happens c (ControlWrite (number w) presetSent) .chip in
     let a = write-preset w c p in
     let b = write-clear w d (a .pointer) in
-    let e = happens d (ControlWrite (number w) 0b11000000) .chip in
+    let e = happens d (ControlWrite (number w) clearUnderrun) .chip in
     let s : chan w e .sender ≡ latchCleared
     (checkPreset (modeIn (chan w c .registers)) (chan w c .sender)) =
     b .sender ∙ ap latchCleared (a .sender) in

@@ -8,6 +8,7 @@ use lib.ListN.{take, replicate}
 use Rattle.common.specs.Refusal.{numberOf}
 use Rattle.line.specs.Bits.{cells}
 use Rattle.line.specs.Frame.{frame}
+use Rattle.settings.specs.Bytes.{clearUnderrun, sdlcMode}
 use Rattle.chip.specs.declared.Chip.{Chip}
 use Rattle.chip.specs.Chip.{hardReset}
 use Rattle.chip.specs.Event.{Event, ControlWrite, ControlRead, DataWrite, DataRead, Acknowledge}
@@ -29,7 +30,7 @@ example n x y = record { number = n; gives = x; says = y }
 
 -- SDLC, sender on with the check included, its latch cleared; receiver on
 abbrev pub sdlcSender : List Event
-sdlcSender = set 0 4 0b00100000 ++ (set 0 5 0b00001001 ++ (ControlWrite 0 0b11000000 ∷ []))
+sdlcSender = set 0 4 sdlcMode ++ (set 0 5 0b00001001 ++ (ControlWrite 0 clearUnderrun ∷ []))
 
 abbrev pub sdlcReceiver : List Event
 sdlcReceiver = set 0 4 0b00100000 ++ set 0 3 0b00000001

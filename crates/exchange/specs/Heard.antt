@@ -10,6 +10,7 @@ use lib.ListN.{drop}
 use Rattle.line.specs.Bits.{textBits, Below, below-none as none, below-more as more}
 use Rattle.blocks.specs.Check.{checkBytes, withCheck}
 use Rattle.blocks.specs.Characters.{endsOf, furtherSyncs, turnAfter, blockGiven}
+use Rattle.settings.specs.Bytes.{presetReceived}
 use Rattle.chip.specs.Computing.{computing}
 use Rattle.chip.specs.declared.Chip.{Chip}
 use Rattle.chip.specs.Chip.{hardReset}
@@ -29,7 +30,7 @@ use Rattle.terminals.specs.Demand.{block-received, flip-seen}
 abbrev pub begin : Chip
 begin =
     after hardReset (set 0 4 0 ++ (set 0 7 0x16 ++ (set 0 5 0b100 ++ (set 0 3 0b11
-    ++ (ControlWrite 0 0b1000000 ∷ [])))))
+    ++ (ControlWrite 0 presetReceived ∷ [])))))
 
 -- behind every bit: reads, status reads, the sender, lines, interrupts, the other channel, refused
 -- calls

@@ -5,6 +5,7 @@ use mathlib.Core.Bool.{true}
 use mathlib.Core.List.{List, [], _∷_, _++_}
 use native.Mathlib.Omega.{arith}
 use Rattle.blocks.specs.Come.{syncHead, blockBits}
+use Rattle.settings.specs.Bytes.{resetStatus, presetSent, clearUnderrun}
 use Rattle.chip.specs.Computing.{computing}
 use Rattle.chip.specs.declared.Chip.{Chip}
 use Rattle.chip.specs.Chip.{hardReset}
@@ -24,13 +25,13 @@ use Rattle.dispatch.specs.Block.{block-sent}
 abbrev pub begin : Chip
 begin =
     after hardReset (set 0 4 0b10000 ++ (set 0 6 0x10 ++ (set 0 7 0x16 ++ (set 0 5 0b1101
-    ++ (ControlWrite 0 0b10000000 ∷ ControlWrite 0 0b11000000 ∷ times 3 (Transmit 0 ∷ []))))))
+    ++ (ControlWrite 0 presetSent ∷ ControlWrite 0 clearUnderrun ∷ times 3 (Transmit 0 ∷ []))))))
 
 -- a tick, with other events behind it
 abbrev pub noisy : List Event
 noisy =
-    Transmit 0 ∷ DataRead 0 ∷ ControlWrite 0 0b10000 ∷ ControlRead 0 ∷ Transmit 1 ∷ DataWrite 1 7
-    ∷ SetLines 0 1 1 ∷ Receive 0 1 ∷ Acknowledge ∷ Reti ∷ Transmit 2 ∷ []
+    Transmit 0 ∷ DataRead 0 ∷ ControlWrite 0 resetStatus ∷ ControlRead 0 ∷ Transmit 1
+    ∷ DataWrite 1 7 ∷ SetLines 0 1 1 ∷ Receive 0 1 ∷ Acknowledge ∷ Reti ∷ Transmit 2 ∷ []
 
 -- 13 bits of the sync; 42 while 41 is sent; FF once the check has begun
 abbrev pub sent : List Event

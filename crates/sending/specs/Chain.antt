@@ -14,6 +14,7 @@ use Rattle.sender.specs.declared.Sender.{Sender}
 use Rattle.sender.specs.Sender.{framerOf, checkPreset, latchCleared}
 use Rattle.sender.specs.Good.{Good}
 use Rattle.settings.specs.Settings.{modeIn, sendingOf}
+use Rattle.settings.specs.Bytes.{presetSent, clearUnderrun}
 use Rattle.sdlc.specs.declared.Framer.{Framer}
 use Rattle.sdlc.specs.Sound.{SoundUnit}
 use Rattle.channel.specs.declared.Channel.{Channel}
@@ -36,10 +37,10 @@ mode-in c h = h .sdlc-mode
 pub starts-anew : StartsAnew
 unfolding after
 starts-anew w c p h =
-    let d = happens c (ControlWrite (number w) 0b10000000) .chip in
+    let d = happens c (ControlWrite (number w) presetSent) .chip in
     let x = write-preset w c (h .to-wr0) in
     let y = write-clear w d (x .pointer) in
-    let e = chan w (happens d (ControlWrite (number w) 0b11000000) .chip) in
+    let e = chan w (happens d (ControlWrite (number w) clearUnderrun) .chip) in
     let s : e .sender
     ≡ latchCleared (checkPreset (modeIn (chan w c .registers)) (chan w c .sender)) = y .sender
     ∙ ap latchCleared (x .sender) in

@@ -18,7 +18,7 @@ use Rattle.chip.specs.Event.{Event, ControlWrite, DataWrite, Transmit}
 use Rattle.whole.specs.Start.{flagHead}
 use Rattle.whole.specs.Heard.{hearAll}
 use Rattle.stories.specs.Story.{A, chan, happens, after, throughout}
-use Rattle.settings.specs.Bytes.{resetStatus}
+use Rattle.settings.specs.Bytes.{resetStatus, clearUnderrun}
 use Rattle.stories.specs.Sent.{lineOf, ticks, d6}
 use Rattle.stories.specs.Sending.{times, tick, setUp, begin, noisy, dry, late, whole, choosing}
 use Rattle.stories.specs.Sending.{held, begun, told}
@@ -59,7 +59,8 @@ pub record Examples : Type 0 where
   -- a WR5 write that turns the check off, and a clearing of the latch, are not quiet
   pub touched : timely A begin 2 (0 ∷ [])
       (DataWrite 0 0 ∷ ControlWrite 0 5 ∷ ControlWrite 0 0b1000 ∷ []) ≡ false
-  pub cleared : timely A begin 2 (0 ∷ []) (DataWrite 0 0 ∷ ControlWrite 0 0b11000000 ∷ []) ≡ false
+  pub cleared :
+      timely A begin 2 (0 ∷ []) (DataWrite 0 0 ∷ ControlWrite 0 clearUnderrun ∷ []) ≡ false
   -- the line runs dry, and a byte comes too late
   pub dry-timely : timely A begin 2 (0 ∷ []) dry ≡ true
   pub runs-dry : RunsDry A choosing

@@ -5,6 +5,7 @@ use mathlib.Core.Bool.{true, false}
 use mathlib.Core.List.{List, [], _∷_}
 use native.Mathlib.Omega.{arith}
 use Rattle.line.specs.Check.{ones}
+use Rattle.settings.specs.Bytes.{presetSent, clearUnderrun, sdlcMode}
 use Rattle.chip.specs.Computing.{computing}
 use Rattle.chip.specs.declared.Chip.{Chip}
 use Rattle.chip.specs.Chip.{hardReset}
@@ -20,10 +21,10 @@ use Rattle.starts.specs.Flag.{where-starts}
 abbrev pub idle : Chip
 idle =
     after hardReset
-    (ControlWrite 0 4 ∷ ControlWrite 0 0b100000 ∷ ControlWrite 0 5 ∷ ControlWrite 0 0b1001 ∷ [])
+    (ControlWrite 0 4 ∷ ControlWrite 0 sdlcMode ∷ ControlWrite 0 5 ∷ ControlWrite 0 0b1001 ∷ [])
 
 abbrev pub along : List Event
-along = ControlWrite 0 0b10000000 ∷ ControlWrite 0 0b11000000 ∷ Transmit 0 ∷ Transmit 0 ∷ []
+along = ControlWrite 0 presetSent ∷ ControlWrite 0 clearUnderrun ∷ Transmit 0 ∷ Transmit 0 ∷ []
 
 pub record Examples : Type 0 where
   pub begins : Begins A idle

@@ -8,6 +8,7 @@ use lib.ListN.{drop}
 use Rattle.line.specs.Bits.{oneIf}
 use Rattle.line.specs.Insertion.{stuff}
 use Rattle.line.specs.Frame.{flagBits, contentOf, frame}
+use Rattle.settings.specs.Bytes.{channelReset, sdlcMode}
 use Rattle.channel.specs.declared.Answer.the-variants.{Gave}
 use Rattle.chip.specs.Computing.{computing}
 use Rattle.chip.specs.declared.Chip.{Chip}
@@ -21,7 +22,7 @@ use Rattle.stories.specs.Received.{bitsOf, valuesOf, goodEnd, badEnd}
 abbrev pub listening : Which → Chip
 listening w =
     after hardReset
-    (ControlWrite (number w) 4 ∷ ControlWrite (number w) 0b100000 ∷ ControlWrite
+    (ControlWrite (number w) 4 ∷ ControlWrite (number w) sdlcMode ∷ ControlWrite
     (number w) 3 ∷ ControlWrite (number w) 0b1 ∷ [])
 
 -- each bit of a line, with the same events behind it
@@ -34,7 +35,7 @@ story w noise (b ∷ bs) = Receive (number w) (oneIf b) ∷ (noise ++ story w no
 abbrev pub noise : List Event
 noise =
     Receive 1 1 ∷ DataRead 0 ∷ ControlWrite 0 0b10001 ∷ ControlRead 0 ∷ DataWrite 0 3
-    ∷ Transmit 0 ∷ SetLines 0 1 1 ∷ DataRead 1 ∷ ControlWrite 1 0b11000
+    ∷ Transmit 0 ∷ SetLines 0 1 1 ∷ DataRead 1 ∷ ControlWrite 1 channelReset
     ∷ Acknowledge ∷ Reti ∷ Receive 0 2 ∷ DataRead 2 ∷ []
 
 abbrev pub noisy : List Event

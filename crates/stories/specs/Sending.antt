@@ -9,7 +9,8 @@ use lib.ListN.{replicate}
 use Rattle.line.specs.Check.{checkBits}
 use Rattle.line.specs.Insertion.{stuff}
 use Rattle.line.specs.Frame.{flagBits, noteBits, checkOf, frame}
-use Rattle.settings.specs.Bytes.{sendAbort, resetStatus, presetSent, clearUnderrun, sdlcMode}
+use Rattle.settings.specs.Bytes.{sendAbort, resetStatus, channelReset, presetSent, clearUnderrun}
+use Rattle.settings.specs.Bytes.{sdlcMode}
 use Rattle.chip.specs.Computing.{computing}
 use Rattle.chip.specs.declared.Chip.{Chip}
 use Rattle.chip.specs.Chip.{hardReset}
@@ -48,7 +49,7 @@ noisy =
     ∷ SetLines 0 1 1 ∷ ControlWrite 0 resetStatus ∷ Acknowledge
     ∷ ControlWrite 0 3 ∷ ControlWrite 0 0b11000001 ∷ ControlWrite 0 4 ∷ ControlWrite 0 0xFF
     ∷ ControlWrite 0 0b100011 ∷ ControlWrite 0 5 ∷ ControlWrite 0 0b1101001
-    ∷ ControlWrite 0 1 ∷ ControlRead 0 ∷ ControlWrite 1 0b11000
+    ∷ ControlWrite 0 1 ∷ ControlRead 0 ∷ ControlWrite 1 channelReset
     ∷ Transmit 0 ∷ DataWrite 0 136 ∷ Reti ∷ times 41
     (Transmit 0 ∷ Transmit 1 ∷ Receive 0 1 ∷ DataRead 0 ∷ [])
 

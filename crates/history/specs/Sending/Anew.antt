@@ -7,6 +7,7 @@ use lib.Dec.{eqb}
 use Rattle.sender.specs.declared.Sender.{Sender}
 use Rattle.sender.specs.Sender.{checkPreset, latchCleared}
 use Rattle.settings.specs.Settings.{modeIn}
+use Rattle.settings.specs.Bytes.{presetSent, clearUnderrun}
 use Rattle.channel.specs.declared.Side.{Side}
 use Rattle.channel.specs.declared.Side.the-variants as channels
 use Rattle.channel.specs.declared.Channel.{Channel}
@@ -28,24 +29,25 @@ at-zero : (c : Channel) → c .pointer ≡ 0 → eqb (c .pointer) 0 ≡ true
 at-zero c p = ap (λ (n : ℕ). eqb n 0) p
 
 preset-left : (c : Channel) (s : Side) → c .pointer ≡ 0
-    → Left c (controlWritten c s 0b10000000 .channel) (checkPreset (modeIn (c .registers)))
+    → Left c (controlWritten c s presetSent .channel) (checkPreset (modeIn (c .registers)))
 unfolding controlWritten writeWr0 commandStep presetStep commanded preset settled
 preset-left c s p = rw (at-zero c p) (record { sender = refl; settings = refl; pointer = refl })
 
 clear-left : (c : Channel) (s : Side) → c .pointer ≡ 0
-    → Left c (controlWritten c s 0b11000000 .channel) latchCleared
+    → Left c (controlWritten c s clearUnderrun .channel) latchCleared
 unfolding controlWritten writeWr0 commandStep presetStep commanded preset settled
 clear-left c s p = rw (at-zero c p) (record { sender = refl; settings = refl; pointer = refl })
 
 pub write-preset : (w : Which) (c : Chip) → chan w c .pointer ≡ 0
-    → Left (chan w c) (chan w (happens c (ControlWrite (number w) 0b10000000) .chip))
+    → Left (chan w c) (chan w (happens c (ControlWrite (number w) presetSent) .chip))
     (checkPreset (modeIn (chan w c .registers)))
 unfolding controlWrite controlWriteA
 write-preset A c p = rw (at-zero (c .a) p) (preset-left (c .a) channels.A p)
 write-preset B c p = preset-left (c .b) channels.B p
 
 pub write-clear : (w : Which) (c : Chip) → chan w c .pointer ≡ 0
-    → Left (chan w c) (chan w (happens c (ControlWrite (number w) 0b11000000) .chip)) latchCleared
+    → Left (chan w c) (chan w (happens c (ControlWrite (number w) clearUnderrun) .chip))
+    latchCleared
 unfolding controlWrite controlWriteA
 write-clear A c p = rw (at-zero (c .a) p) (clear-left (c .a) channels.A p)
 write-clear B c p = clear-left (c .b) channels.B p

@@ -5,6 +5,7 @@ use mathlib.Core.Path.{_≡_, refl}
 use mathlib.Core.Bool.{Bool, true}
 use mathlib.Core.List.{List, [], _∷_}
 use Prim.Native.Nat.{ℕ}
+use Rattle.settings.specs.Bytes.{presetSent, clearUnderrun}
 use Rattle.chip.specs.declared.Chip.{Chip}
 use Rattle.chip.specs.Event.{Event, ControlWrite, DataWrite, Transmit}
 use Rattle.stories.specs.Story.{Which, number, happens, throughout, throughout-holds}
@@ -27,7 +28,7 @@ pub data TicksWhere (May : Chip → Type 0) (w : Which) : Chip → List Event �
 -- What makes a sender ready for the next frame or block: WR0, "D7-6: .. 2 preset Tx check, 3 clear
 -- Underrun latch"
 abbrev pub anew : Which → List Event
-anew w = ControlWrite (number w) 0b10000000 ∷ ControlWrite (number w) 0b11000000 ∷ []
+anew w = ControlWrite (number w) presetSent ∷ ControlWrite (number w) clearUnderrun ∷ []
 
 -- As a test
 
