@@ -20,15 +20,12 @@ ghost use Rattle.channel.specs.Events.{dataWritten, dataRead, afterTick,
 
 impl Channel {
     // A data write.
-    pub fn data_write(mut self, v: u8) -> Answered
-        ensures { λ r. ⌜ r ≡ answered Done (dataWritten self v) ⌝ }
+    pub fn data_write(mut self, v: u8) -> Channel
+        ensures { λ r. ⌜ r ≡ dataWritten self v ⌝ }
     {
         self.sender = self.sender.write(v);
         self.transmit = false;
-        Answered {
-            answer: Answer::Done,
-            channel: self,
-        }
+        self
     }
 
     // A data read: refused where nothing waits.

@@ -19,8 +19,8 @@ use ticking::transmit_b;
 use vector::Acked;
 ghost use mathlib.Core.Path.{_≡_};
 ghost use Rattle.common.specs.declared.Refusal.the-variants.{Channel as NoChannel};
-ghost use Rattle.chip.specs.Interrupts.{chip, inService, acknowledge, reti};
-ghost use Rattle.chip.specs.Chip.{outcome, refused, hardReset, controlWriteA, controlWrite, controlReadCall, dataWriteCall};
+ghost use Rattle.chip.specs.Interrupts.{inService, acknowledge, reti};
+ghost use Rattle.chip.specs.Chip.{inA, inB, refused, hardReset, controlWriteA, controlWrite, controlReadCall, dataWriteCall};
 ghost use Rattle.chip.specs.Chip.{dataReadCall, transmitCall, receiveCall, linesCall};
 
 pub struct Chip {
@@ -40,29 +40,6 @@ pub struct Acknowledged {
     pub chip: Chip,
 }
 
-// A's answer, with B as it was; and B's, with A.
-fn from_a(x: Answered, b: Channel) -> Outcome
-    ensures { λ r. ⌜ r ≡ outcome (x .answer) (chip (x .channel) b) ⌝ }
-{
-    let w = x.answer;
-    let a = x.channel;
-    Outcome {
-        answer: w,
-        chip: Chip { a, b },
-    }
-}
-
-fn from_b(x: Answered, a: Channel) -> Outcome
-    ensures { λ r. ⌜ r ≡ outcome (x .answer) (chip a (x .channel)) ⌝ }
-{
-    let w = x.answer;
-    let b = x.channel;
-    Outcome {
-        answer: w,
-        chip: Chip { a, b },
-    }
-}
-
 // Each call by its channel. Its arms return, one by one: an answer that all of them make is laid out once more, and proved.
 impl Chip {
     // A hard reset.
@@ -79,6 +56,31 @@ impl Chip {
         }
     }
 
+    // A's answer, with B as it was; and B's, with A.
+    fn in_a(mut self, x: Answered) -> Outcome
+        ensures { λ r. ⌜ r ≡ inA self x ⌝ }
+    {
+        let w = x.answer;
+        let a = x.channel;
+        self.a = a;
+        Outcome {
+            answer: w,
+            chip: self,
+        }
+    }
+
+    fn in_b(mut self, x: Answered) -> Outcome
+        ensures { λ r. ⌜ r ≡ inB self x ⌝ }
+    {
+        let w = x.answer;
+        let b = x.channel;
+        self.b = b;
+        Outcome {
+            answer: w,
+            chip: self,
+        }
+    }
+
     // There is no such channel.
     fn no_channel(self) -> Outcome
         ensures { λ r. ⌜ r ≡ refused self NoChannel ⌝ }
@@ -90,11 +92,12 @@ impl Chip {
     }
 
     // A's control write: command 7 first, which ends a source in service, of either channel.
-    fn write_a(self, v: u8) -> Outcome
+    fn write_a(mut self, v: u8) -> Outcome
         ensures { λ r. ⌜ r ≡ controlWriteA self v ⌝ }
     {
         let s = service_under(self.a, self.b, v);
-        from_a(control_write_a(self.a, s.a, v), self.b.serving(s.b))
+        self.b = self.b.serving(s.b);
+        self.in_a(control_write_a(self.a, s.a, v))
     }
 
     // Control write.
@@ -106,7 +109,7 @@ impl Chip {
                 return self.write_a(v);
             }
             1 => {
-                return from_b(control_write_b(self.b, v), self.a);
+                return self.in_b(control_write_b(self.b, v));
             }
             _ => {
                 return self.no_channel();
@@ -120,10 +123,10 @@ impl Chip {
     {
         match ch {
             0 => {
-                return from_a(control_read_a(self.a, self.b), self.b);
+                return self.in_a(control_read_a(self.a, self.b));
             }
             1 => {
-                return from_b(control_read_b(self.a, self.b), self.a);
+                return self.in_b(control_read_b(self.a, self.b));
             }
             _ => {
                 return self.no_channel();
@@ -132,15 +135,23 @@ impl Chip {
     }
 
     // Data write.
-    pub fn data_write(self, ch: u8, v: u8) -> Outcome
+    pub fn data_write(mut self, ch: u8, v: u8) -> Outcome
         ensures { λ r. ⌜ r ≡ dataWriteCall self ch v ⌝ }
     {
         match ch {
             0 => {
-                return from_a(self.a.data_write(v), self.b);
+                self.a = self.a.data_write(v);
+                return Outcome {
+                    answer: Answer::Done,
+                    chip: self,
+                };
             }
             1 => {
-                return from_b(self.b.data_write(v), self.a);
+                self.b = self.b.data_write(v);
+                return Outcome {
+                    answer: Answer::Done,
+                    chip: self,
+                };
             }
             _ => {
                 return self.no_channel();
@@ -154,10 +165,10 @@ impl Chip {
     {
         match ch {
             0 => {
-                return from_a(self.a.data_read(), self.b);
+                return self.in_a(self.a.data_read());
             }
             1 => {
-                return from_b(self.b.data_read(), self.a);
+                return self.in_b(self.b.data_read());
             }
             _ => {
                 return self.no_channel();
@@ -171,10 +182,10 @@ impl Chip {
     {
         match ch {
             0 => {
-                return from_a(transmit_a(self.a), self.b);
+                return self.in_a(transmit_a(self.a));
             }
             1 => {
-                return from_b(transmit_b(self.b), self.a);
+                return self.in_b(transmit_b(self.b));
             }
             _ => {
                 return self.no_channel();
@@ -188,10 +199,10 @@ impl Chip {
     {
         match ch {
             0 => {
-                return from_a(receive_a(self.a, bit), self.b);
+                return self.in_a(receive_a(self.a, bit));
             }
             1 => {
-                return from_b(receive_b(self.b, bit), self.a);
+                return self.in_b(receive_b(self.b, bit));
             }
             _ => {
                 return self.no_channel();
@@ -205,10 +216,10 @@ impl Chip {
     {
         match ch {
             0 => {
-                return from_a(self.a.set_lines(dcd, cts), self.b);
+                return self.in_a(self.a.set_lines(dcd, cts));
             }
             1 => {
-                return from_b(self.b.set_lines(dcd, cts), self.a);
+                return self.in_b(self.b.set_lines(dcd, cts));
             }
             _ => {
                 return self.no_channel();

@@ -1,29 +1,31 @@
 -- `chip::Chip::control_read` meets its contract: each return by the facts on its way. Assumes nothing.
 use Rattle.chip.proofs.Branch.{tests}
 use Rattle.chip.specs.Chip.{controlReadCall}
-use Rattle.chip.specs.Interrupts.{anyPending, rr2, pendingOf}
+use Rattle.chip.specs.Interrupts.{anyPending}
+use Rattle.chip.specs.Interrupts.{rr2}
+use Rattle.chip.specs.Interrupts.{pendingOf}
 use Rattle.chip.proofs.Chip.control_read.Statement.{statement}
 use Rattle.chip.proofs.Chip.control_read.Tie as tie
 
 control-read-a-requires : tie.Need-control-read-a-requires
 control-read-a-requires c κs = tt
 
-from-a-requires : tie.Need-from-a-requires
-from-a-requires c κs = tt
+in-a-requires : tie.Need-in-a-requires
+in-a-requires c κs = tt
 
 returns : tie.Need-returns
 unfolding controlReadCall anyPending rr2 pendingOf
-returns c = simp (tests, c .from-a .ensures, c .before .before .match .keys1, c .before .control-read-a .ensures)
+returns c = simp (tests, c .in-a .ensures, c .before .before .match .keys1, c .before .control-read-a .ensures)
 
 control-read-b-requires : tie.Need-control-read-b-requires
 control-read-b-requires c κs = tt
 
-from-b-requires : tie.Need-from-b-requires
-from-b-requires c κs = tt
+in-b-requires : tie.Need-in-b-requires
+in-b-requires c κs = tt
 
 returns-2 : tie.Need-returns-2
 unfolding controlReadCall anyPending rr2 pendingOf
-returns-2 c = simp (tests, c .from-b .ensures, c .before .before .match .keys2, c .before .control-read-b .ensures)
+returns-2 c = simp (tests, c .in-b .ensures, c .before .before .match .keys2, c .before .control-read-b .ensures)
 
 no-channel-requires : tie.Need-no-channel-requires
 no-channel-requires c κs = tt
@@ -37,10 +39,10 @@ control-read-spec =
     tie.close
     (tie.spec
     control-read-a-requires
-    from-a-requires
+    in-a-requires
     returns
     control-read-b-requires
-    from-b-requires
+    in-b-requires
     returns-2
     no-channel-requires
     returns-3)

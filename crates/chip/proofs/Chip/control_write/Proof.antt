@@ -14,12 +14,12 @@ returns c = simp (tests, c .before .match .keys1) (c .write-a .ensures)
 control-write-b-requires : tie.Need-control-write-b-requires
 control-write-b-requires c κs = tt
 
-from-b-requires : tie.Need-from-b-requires
-from-b-requires c κs = tt
+in-b-requires : tie.Need-in-b-requires
+in-b-requires c κs = tt
 
 returns-2 : tie.Need-returns-2
 unfolding controlWrite
-returns-2 c = simp (tests, c .before .before .match .keys2, ← c .before .control-write-b .ensures) (c .from-b .ensures)
+returns-2 c = simp (tests, c .before .before .match .keys2, ← c .before .control-write-b .ensures) (c .in-b .ensures)
 
 no-channel-requires : tie.Need-no-channel-requires
 no-channel-requires c κs = tt
@@ -35,7 +35,7 @@ control-write-spec =
     write-a-requires
     returns
     control-write-b-requires
-    from-b-requires
+    in-b-requires
     returns-2
     no-channel-requires
     returns-3)

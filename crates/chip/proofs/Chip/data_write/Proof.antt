@@ -7,22 +7,16 @@ use Rattle.chip.proofs.Chip.data_write.Tie as tie
 data-write-requires : tie.Need-data-write-requires
 data-write-requires c κs = tt
 
-from-a-requires : tie.Need-from-a-requires
-from-a-requires c κs = tt
-
 returns : tie.Need-returns
 unfolding dataWriteCall
-returns c = simp (tests, c .from-a .ensures, c .before .before .match .keys1, c .before .data-write .ensures)
+returns c = simp (tests, c .data-write .ensures, c .before .match .keys1)
 
 data-write-requires-2 : tie.Need-data-write-requires-2
 data-write-requires-2 c κs = tt
 
-from-b-requires : tie.Need-from-b-requires
-from-b-requires c κs = tt
-
 returns-2 : tie.Need-returns-2
 unfolding dataWriteCall
-returns-2 c = simp (tests, c .from-b .ensures, c .before .before .match .keys2, c .before .data-write2 .ensures)
+returns-2 c = simp (tests, c .data-write2 .ensures, c .before .match .keys2)
 
 no-channel-requires : tie.Need-no-channel-requires
 no-channel-requires c κs = tt
@@ -36,10 +30,8 @@ data-write-spec =
     tie.close
     (tie.spec
     data-write-requires
-    from-a-requires
     returns
     data-write-requires-2
-    from-b-requires
     returns-2
     no-channel-requires
     returns-3)

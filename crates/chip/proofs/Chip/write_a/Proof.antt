@@ -7,25 +7,25 @@ use Rattle.chip.proofs.Chip.write_a.Tie as tie
 service-under-requires : tie.Need-service-under-requires
 service-under-requires c κs = tt
 
-control-write-a-requires : tie.Need-control-write-a-requires
-control-write-a-requires c κs = tt
-
 serving-requires : tie.Need-serving-requires
 serving-requires c κs = tt
 
-from-a-requires : tie.Need-from-a-requires
-from-a-requires c κs = tt
+control-write-a-requires : tie.Need-control-write-a-requires
+control-write-a-requires c κs = tt
+
+in-a-requires : tie.Need-in-a-requires
+in-a-requires c κs = tt
 
 returns : tie.Need-returns
 unfolding controlWriteA
-returns c = simp (tests, ← c .before .serving .ensures, ← c .before .before .control-write-a .ensures, ← c .before .before .before .service-under .ensures) (c .from-a .ensures)
+returns c = simp (tests, ← c .before .control-write-a .ensures, ← c .before .before .serving .ensures, ← c .before .before .before .service-under .ensures) (c .in-a .ensures)
 
 pub write-a-spec : {M : Type 1} → statement M
 write-a-spec =
     tie.close
     (tie.spec
     service-under-requires
-    control-write-a-requires
     serving-requires
-    from-a-requires
+    control-write-a-requires
+    in-a-requires
     returns)
