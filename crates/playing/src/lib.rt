@@ -2,14 +2,19 @@
 mod list;
 
 use crate::list::list_value;
-use channel::Answer;
 use chip::Chip;
-use chip::Outcome;
+use items::Item;
 use items::Sheet;
 ghost use mathlib.Core.Path.{_≡_};
-ghost use Rattle.channel.specs.declared.Answer.the-variants.{Done};
-ghost use Rattle.chip.specs.Chip.{hardReset, outcome};
-ghost use Rattle.playing.specs.Playing.{otherValue, turned, played};
+ghost use Rattle.chip.specs.Chip.{hardReset};
+ghost use Rattle.playing.specs.Playing.{turn, eventTurn, otherValue, turned, playing, allRounds, played};
+
+// What an item gave, a refusal's number and a value, and the chip after it.
+struct Turn {
+    number: u8,
+    value: u8,
+    chip: Chip,
+}
 
 // What a call other than an event gives.
 fn value_of(c: Chip, s: Sheet, desk: &[u8]) -> u8
@@ -21,26 +26,57 @@ fn value_of(c: Chip, s: Sheet, desk: &[u8]) -> u8
     calls::value_of(s, script::register(c, s.item.x, s.item.y), desk)
 }
 
+// What an event answers. The chip is taken last: each step behind that is dear to prove.
+fn event(c: Chip, i: Item) -> Turn
+    ensures { λ r. ⌜ r ≡ eventTurn c i ⌝ }
+{
+    let o = script::step(c, i.kind, i.x, i.y, i.z);
+    let w = o.answer;
+    let number = w.number();
+    let value = w.value();
+    let chip = o.chip;
+    Turn {
+        number,
+        value,
+        chip,
+    }
+}
+
 // What an event answers; of any other item the value of its call, and the chip as it is: no answer asks for the chip behind a list.
-fn turn(c: Chip, s: Sheet, desk: &[u8]) -> Outcome
+fn turned(c: Chip, s: Sheet, desk: &[u8]) -> Turn
     ensures { λ r. ⌜ r ≡ turned c s (now (desk .entry)) ⌝ }
 {
     if s.item.kind < items::REGISTER {
-        return script::step(c, s.item.kind, s.item.x, s.item.y, s.item.z);
+        return event(c, s.item);
     }
-    Outcome {
-        answer: Answer::Gave(value_of(c, s, desk)),
+    Turn {
+        number: 0,
+        value: value_of(c, s, desk),
         chip: c,
     }
 }
 
-fn start() -> Outcome
-    ensures { λ r. ⌜ r ≡ outcome Done hardReset ⌝ }
+fn start() -> Turn
+    ensures { λ r. ⌜ r ≡ turn 0 0 hardReset ⌝ }
 {
-    Outcome {
-        answer: Answer::Done,
+    Turn {
+        number: 0,
+        value: 0,
         chip: Chip::reset(),
     }
+}
+
+// All rounds that are left, from the chip behind this turn on.
+fn all_rounds(mut t: Turn, mut s: Sheet, input: &[u8], desk: &mut [u8], out: &mut [u8]) -> Sheet
+    ensures { λ r. ⌜ r ≡ allRounds (now (input .entry)) (playing s (t .chip) (now (desk .entry)) (now (out .entry))) .sheet ⌝ }
+    ensures { λ r. ⌜ now (desk .exit) ≡ allRounds (now (input .entry)) (playing s (t .chip) (now (desk .entry)) (now (out .entry))) .desk ⌝ }
+    ensures { λ r. ⌜ now (out .exit) ≡ allRounds (now (input .entry)) (playing s (t .chip) (now (desk .entry)) (now (out .entry))) .out ⌝ }
+{
+    while s.item.kind != items::STOP {
+        t = turned(t.chip, s, desk);
+        s = items::next(s, input, desk, out, t.number, t.value);
+    }
+    s
 }
 
 // All items are played on a chip, one after another, and the cases told.
@@ -49,12 +85,5 @@ pub fn play(input: &[u8], desk: &mut [u8], out: &mut [u8]) -> Sheet
     ensures { λ r. ⌜ now (desk .exit) ≡ played (now (input .entry)) (now (desk .entry)) (now (out .entry)) .desk ⌝ }
     ensures { λ r. ⌜ now (out .exit) ≡ played (now (input .entry)) (now (desk .entry)) (now (out .entry)) .out ⌝ }
 {
-    let mut o = start();
-    let mut s = Sheet::start();
-    while s.item.kind != items::STOP {
-        o = turn(o.chip, s, desk);
-        let w = o.answer;
-        s = items::next(s, input, desk, out, w.number(), w.value());
-    }
-    s
+    all_rounds(start(), Sheet::start(), input, desk, out)
 }

@@ -10,14 +10,17 @@ use common::Refusal;
 use flags::Between;
 use head::note_at;
 use line::note_fits;
+use notes::Scanned;
 use notes::scan;
 pub use told::Listed;
 pub use told::Told;
 ghost use mathlib.Core.Path.{_≡_};
-ghost use Rattle.notes.specs.NoteList.{readList};
+ghost use lib.ListN.{length};
+ghost use Rattle.notes.specs.NoteList.{readList, scanned};
 ghost use Rattle.report.specs.Report.{reportOf, rowsIn};
 ghost use Rattle.listline.specs.ListLine.{chipAfter};
-ghost use Rattle.station.specs.Station.{sendOf, listSent, listedOf};
+ghost use Rattle.station.specs.Station.{noteSent, sendOf, listSent, listedOf};
+ghost use Rattle.station.specs.Walk.{atFirst};
 
 // A note was sent, and the chip after it.
 pub struct Sent {
@@ -34,6 +37,18 @@ pub struct ListSent {
 // A row has four numbers: a note's number, its bytes, the zeros inserted and the ticks with both flags.
 pub const ROW: usize = 4;
 
+fn note_sent(told: Told, chip: Chip) -> Sent
+    ensures { λ r. ⌜ r ≡ noteSent told chip ⌝ }
+{
+    Sent { told, chip }
+}
+
+fn list_sent(listed: Listed, chip: Chip) -> ListSent
+    ensures { λ r. ⌜ r ≡ listSent listed chip ⌝ }
+{
+    ListSent { listed, chip }
+}
+
 // One note through channel A: the frame goes out behind the flag that closed the one before, or behind a flag of its own.
 pub fn send(c: Chip, note: &[u8]) -> Sent
     ensures { λ r. ⌜ r ≡ sendOf c (now (note .entry)) ⌝ }
@@ -41,29 +56,43 @@ pub fn send(c: Chip, note: &[u8]) -> Sent
     if note_fits(note.len()) {
         return send_next(c, Between::SharedFlag, 0, note);
     }
-    Sent {
-        told: Told::Refused(Refusal::NoteLength),
-        chip: c,
-    }
+    note_sent(Told::Refused(Refusal::NoteLength), c)
 }
 
-// A list through channel A: it is checked first, then each note goes from the middle of the list, without a copy, one behind the other by this
-// choice. The rows go into the lent part, all of them or, where it is too short, none.
-pub fn send_list(mut c: Chip, list: &[u8], rows: &mut [usize], between: Between) -> ListSent
+// The notes of a list that was scanned, behind what was sent last: each goes from the middle of the list, without a copy.
+fn send_notes(
+    mut x: Sent,
+    s: Scanned,
+    mut w: Walk,
+    list: &[u8],
+    rows: &mut [usize],
+    between: Between,
+) -> ListSent
+    requires { ⌜ s ≡ scanned (readList (now list)) ⌝ }
+    requires { ⌜ w ≡ atFirst s (length (now rows)) ⌝ }
+    ensures { λ r. ⌜ r ≡ listSent (listedOf (reportOf between (now (list .entry)))) (chipAfter between (x .chip) (readList (now (list .entry)))) ⌝ }
+    ensures { λ r. ⌜ now (rows .exit) ≡ rowsIn (now (rows .entry)) (reportOf between (now (list .entry))) ⌝ }
+{
+    while w.notes < w.all {
+        let note = note_at(list, w.at);
+        x = send_next(x.chip, between, w.notes, note);
+        let t = x.told;
+        w = w.on(rows, note, t);
+    }
+    list_sent(w.listed(s, between), x.chip)
+}
+
+// A list through channel A: it is checked first, then its notes go, one behind the other by this choice. The rows go into the lent part, all of
+// them or, where it is too short, none.
+pub fn send_list(c: Chip, list: &[u8], rows: &mut [usize], between: Between) -> ListSent
     ensures { λ r. ⌜ r ≡ listSent (listedOf (reportOf between (now (list .entry)))) (chipAfter between c (readList (now (list .entry)))) ⌝ }
     ensures { λ r. ⌜ now (rows .exit) ≡ rowsIn (now (rows .entry)) (reportOf between (now (list .entry))) ⌝ }
 {
     let s = scan(list);
-    let mut w = Walk::start(s, rows.len());
-    while w.notes < w.all {
-        let note = note_at(list, w.at);
-        let x = send_next(c, between, w.notes, note);
-        let t = x.told;
-        c = x.chip;
-        w = w.on(rows, note, t);
-    }
-    ListSent {
-        listed: w.listed(s, between),
-        chip: c,
-    }
+    let w = Walk::start(s, rows.len());
+    let x = note_sent(Told::Gone {
+        zeros: 0,
+        ticks: 0,
+    }, c);
+    send_notes(x, s, w, list, rows, between)
 }

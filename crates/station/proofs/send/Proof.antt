@@ -15,9 +15,12 @@ unfolding sendOf
 returns c =
     rw (sym (c .before .before .note-fits .ensures) ∙ c .before .if1 .taken) (c .send-next .ensures)
 
+note-sent-requires : tie.Need-note-sent-requires
+note-sent-requires c κs = tt
+
 returns-2 : tie.Need-returns-2
 unfolding sendOf
-returns-2 c = rw (← c .before .note-fits .ensures, c .if1 .left)
+returns-2 c = rw (← c .before .before .note-fits .ensures, c .before .if1 .left) (c .note-sent .ensures)
 
 pub send-spec : {M : Type 1} → statement M
-send-spec = tie.close (tie.spec note-fits-requires send-next-requires returns returns-2)
+send-spec = tie.close (tie.spec note-fits-requires send-next-requires returns note-sent-requires returns-2)
