@@ -80,12 +80,14 @@ fn following(g: Framing, u: LineUnit, run: u8, k: Shared) -> Framed
     ensures { λ r. ⌜ r ≡ following g u run k ⌝ }
 {
     match u {
-        LineUnit::Mark => start_flag(k),
+        LineUnit::Mark => {
+            return start_flag(k);
+        }
         LineUnit::Flag(n) => {
             if k.full {
                 return start_byte(g, run, k);
             }
-            start_flag(k)
+            return start_flag(k);
         }
         LineUnit::Byte(n, v) => {
             if k.full {
@@ -94,10 +96,14 @@ fn following(g: Framing, u: LineUnit, run: u8, k: Shared) -> Framed
             if !k.latch & g.included {
                 return start_check(run, k.latched());
             }
-            start_flag(k.latched())
+            return start_flag(k.latched());
         }
-        LineUnit::Check(n, v) => start_flag(k),
-        LineUnit::Abort(n) => start_flag(k),
+        LineUnit::Check(n, v) => {
+            return start_flag(k);
+        }
+        LineUnit::Abort(n) => {
+            return start_flag(k);
+        }
     }
 }
 

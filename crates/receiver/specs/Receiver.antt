@@ -104,21 +104,27 @@ showsAs s was =
 -- A receive tick. "With no mode, ticks .. receive nothing"; "A tick while off clears D7, and it ..
 -- drops the unfinished part"
 
+abbrev pub hearInCharacters : Receiving → Receiver → Bool → Heard
+hearInCharacters g s b =
+    if g .on then byAssembly s (hearCharacter (g .format) (s .assembly) (s .broken) b)
+    else silent (dropped s false false)
+
 abbrev pub hearInBlocks : Receiving → Receiver → Bool → Heard
 hearInBlocks g s b =
     if g .on then byMatched s (hearBlock (g .matching) (s .reception) (s .check) b)
     else silent (dropped s true false)
 
-abbrev pub hearIn : Mode → Receiving → Receiver → Bool → Heard
-hearIn NoMode g s b = silent s
-hearIn Asynchronous g s b =
-    if g .on then byAssembly s (hearCharacter (g .format) (s .assembly) (s .broken) b)
-    else silent (dropped s false false)
-hearIn Monosync g s b = hearInBlocks g s b
-hearIn Bisync g s b = hearInBlocks g s b
-hearIn Sdlc g s b =
+abbrev pub hearInFrames : Receiving → Receiver → Bool → Heard
+hearInFrames g s b =
     if g .on then byListener s (hearSdlc (g .addressing) (listenerOf s) b)
     else silent (dropped s true false)
+
+abbrev pub hearIn : Mode → Receiving → Receiver → Bool → Heard
+hearIn NoMode g s b = silent s
+hearIn Asynchronous g s b = hearInCharacters g s b
+hearIn Monosync g s b = hearInBlocks g s b
+hearIn Bisync g s b = hearInBlocks g s b
+hearIn Sdlc g s b = hearInFrames g s b
 
 unfoldable pub hear : Receiving → Receiver → Bool → Heard
 hear g s b = hearIn (g .mode) g s b

@@ -16,7 +16,8 @@ use sdlc::Listened;
 use sdlc::Listener;
 use shared::preset_for;
 ghost use mathlib.Core.Path.{_≡_};
-ghost use Rattle.receiver.specs.Receiver.{listenerOf, listenerIn, receptionIn, byListener, byAssembly, byMatched, hearInBlocks, silent};
+ghost use Rattle.receiver.specs.Receiver.{listenerOf, listenerIn, receptionIn, byListener, byAssembly, byMatched, silent};
+ghost use Rattle.receiver.specs.Receiver.{hearInCharacters, hearInBlocks, hearInFrames};
 ghost use Rattle.receiver.specs.Receiver.{reset, dropped, enterHunt, modeChanged, presetCheck, hunting, showsAs, hear};
 
 // A channel's settings as a tick finds them. on: WR3 D0 and, with auto enables, DCD.
@@ -197,6 +198,16 @@ impl Receiver {
         }
     }
 
+    // A receive tick of asynchronous mode.
+    fn hear_character(self, g: Receiving, bit: bool) -> Heard
+        ensures { λ r. ⌜ r ≡ hearInCharacters g self bit ⌝ }
+    {
+        if g.on {
+            return self.by_assembly(self.assembly.hear(g.format, self.broken, bit));
+        }
+        self.dropped(false, false).silent()
+    }
+
     // A receive tick of Monosync or Bisync.
     fn hear_block(self, g: Receiving, bit: bool) -> Heard
         ensures { λ r. ⌜ r ≡ hearInBlocks g self bit ⌝ }
@@ -204,6 +215,16 @@ impl Receiver {
         let y = g.matching;
         if g.on {
             return self.by_matched(y.hear(self.reception, self.check, bit));
+        }
+        self.dropped(true, false).silent()
+    }
+
+    // A receive tick of SDLC.
+    fn hear_frame(self, g: Receiving, bit: bool) -> Heard
+        ensures { λ r. ⌜ r ≡ hearInFrames g self bit ⌝ }
+    {
+        if g.on {
+            return self.by_listener(listening::hear(self.listener(), g.addressing, bit));
         }
         self.dropped(true, false).silent()
     }
@@ -219,20 +240,10 @@ impl Receiver {
         }
         match mode {
             Mode::NoMode => self.silent(),
-            Mode::Asynchronous => {
-                if g.on {
-                    return self.by_assembly(self.assembly.hear(g.format, self.broken, bit));
-                }
-                self.dropped(false, false).silent()
-            }
+            Mode::Asynchronous => self.hear_character(g, bit),
             Mode::Monosync => self.silent(),
             Mode::Bisync => self.silent(),
-            Mode::Sdlc => {
-                if g.on {
-                    return self.by_listener(listening::hear(self.listener(), g.addressing, bit));
-                }
-                self.dropped(true, false).silent()
-            }
+            Mode::Sdlc => self.hear_frame(g, bit),
         }
     }
 }

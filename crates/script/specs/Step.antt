@@ -45,16 +45,21 @@ abbrev pub acknowledgeEvent : ℕ
 acknowledgeEvent = 8
 
 -- "Hard reset; control write, control read, data write, data read; transmit tick (gives one line
--- bit); receive tick (takes one); set DCD and CTS; acknowledge; RETI." Those that name a channel:
+-- bit); receive tick (takes one); set DCD and CTS; acknowledge; RETI." Those that name a channel,
+-- first those at its pins:
+abbrev pub atPins : Chip → ℕ → ℕ → ℕ → ℕ → Outcome
+atPins c code x y z =
+    if eqb code transmitEvent then transmitCall c x
+    else (if eqb code receiveEvent then receiveCall c x y
+    else linesCall c x y z)
+
 unfoldable pub named : Chip → ℕ → ℕ → ℕ → ℕ → Outcome
 named c code x y z =
     if eqb code controlWriteEvent then controlWrite c x y
     else (if eqb code controlReadEvent then controlReadCall c x
     else (if eqb code dataWriteEvent then dataWriteCall c x y
     else (if eqb code dataReadEvent then dataReadCall c x
-    else (if eqb code transmitEvent then transmitCall c x
-    else (if eqb code receiveEvent then receiveCall c x y
-    else linesCall c x y z)))))
+    else atPins c code x y z)))
 
 -- a hard reset and a RETI are never refused and give nothing
 abbrev pub plain : Chip → Outcome

@@ -7,7 +7,7 @@ use common::Refusal;
 use vector::Acked;
 ghost use mathlib.Core.Path.{_≡_};
 ghost use Rattle.chip.specs.Interrupts.{acknowledge};
-ghost use Rattle.script.specs.Step.{answerOf, acknowledged, plain, unnamed, named, step};
+ghost use Rattle.script.specs.Step.{answerOf, acknowledged, plain, unnamed, atPins, named, step};
 ghost use Rattle.script.specs.Shown.{registerOf, shown};
 
 // The codes of the events.
@@ -80,7 +80,24 @@ fn unnamed(mut c: Chip, code: u8) -> Outcome
     }
 }
 
-// The events that name one; any other code is taken as the last of them, set DCD and CTS.
+// The events at the pins of a channel; any other code is taken as the last of them, set DCD and CTS.
+fn at_pins(c: Chip, code: u8, x: u8, y: u8, z: u8) -> Outcome
+    ensures { λ r. ⌜ r ≡ atPins c code x y z ⌝ }
+{
+    match code {
+        TRANSMIT => {
+            return c.transmit(x);
+        }
+        RECEIVE => {
+            return c.receive(x, y);
+        }
+        _ => {
+            return c.set_lines(x, y, z);
+        }
+    }
+}
+
+// The events that name a channel.
 fn named(c: Chip, code: u8, x: u8, y: u8, z: u8) -> Outcome
     ensures { λ r. ⌜ r ≡ named c code x y z ⌝ }
 {
@@ -97,14 +114,8 @@ fn named(c: Chip, code: u8, x: u8, y: u8, z: u8) -> Outcome
         DATA_READ => {
             return c.data_read(x);
         }
-        TRANSMIT => {
-            return c.transmit(x);
-        }
-        RECEIVE => {
-            return c.receive(x, y);
-        }
         _ => {
-            return c.set_lines(x, y, z);
+            return at_pins(c, code, x, y, z);
         }
     }
 }

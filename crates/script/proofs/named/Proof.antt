@@ -32,26 +32,12 @@ returns-4 : tie.Need-returns-4
 unfolding named
 returns-4 c = simp (tests, c .before .match .keys4) (c .data-read .ensures)
 
-transmit-requires : tie.Need-transmit-requires
-transmit-requires c κs = tt
+at-pins-requires : tie.Need-at-pins-requires
+at-pins-requires c κs = tt
 
 returns-5 : tie.Need-returns-5
 unfolding named
-returns-5 c = simp (tests, c .before .match .keys5) (c .transmit .ensures)
-
-receive-requires : tie.Need-receive-requires
-receive-requires c κs = tt
-
-returns-6 : tie.Need-returns-6
-unfolding named
-returns-6 c = simp (tests, c .before .match .keys6) (c .receive .ensures)
-
-set-lines-requires : tie.Need-set-lines-requires
-set-lines-requires c κs = tt
-
-returns-7 : tie.Need-returns-7
-unfolding named
-returns-7 c = simp (tests, c .before .match .rest .1, c .before .match .rest .0 .1, c .before .match .rest .0 .0 .1, c .before .match .rest .0 .0 .0 .1, c .before .match .rest .0 .0 .0 .0 .1, c .before .match .rest .0 .0 .0 .0 .0 .1) (c .set-lines .ensures)
+returns-5 c = simp (tests, c .before .match .rest .1, c .before .match .rest .0 .1, c .before .match .rest .0 .0 .1, c .before .match .rest .0 .0 .0 .1) (c .at-pins .ensures)
 
 pub named-spec : {M : Type 1} → statement M
 named-spec =
@@ -65,9 +51,5 @@ named-spec =
     returns-3
     data-read-requires
     returns-4
-    transmit-requires
-    returns-5
-    receive-requires
-    returns-6
-    set-lines-requires
-    returns-7)
+    at-pins-requires
+    returns-5)

@@ -30,75 +30,46 @@ silent-requires c κs = tt
 enum-told-2 : tie.Need-enum-told-2
 enum-told-2 c = search needs
 
-hear-requires : tie.Need-hear-requires
-hear-requires c κs = tt
-
-by-assembly-requires : tie.Need-by-assembly-requires
-by-assembly-requires c κs = tt
-
-returns-2 : tie.Need-returns-2
-unfolding hear
-returns-2 c = simp (tests, c .before .before .if2 .taken, c .before .before .before .enum-told2 .given .1, ← c .before .hear .ensures) (c .by-assembly .ensures)
-
-dropped-requires : tie.Need-dropped-requires
-dropped-requires c κs = tt
-
-silent-requires-2 : tie.Need-silent-requires-2
-silent-requires-2 c κs = tt
+hear-character-requires : tie.Need-hear-character-requires
+hear-character-requires c κs = tt
 
 enum-told-3 : tie.Need-enum-told-3
 enum-told-3 c = search needs
 
-silent-requires-3 : tie.Need-silent-requires-3
-silent-requires-3 c κs = tt
+silent-requires-2 : tie.Need-silent-requires-2
+silent-requires-2 c κs = tt
 
 enum-told-4 : tie.Need-enum-told-4
 enum-told-4 c = search needs
 
-silent-requires-4 : tie.Need-silent-requires-4
-silent-requires-4 c κs = tt
+silent-requires-3 : tie.Need-silent-requires-3
+silent-requires-3 c κs = tt
 
 enum-told-5 : tie.Need-enum-told-5
 enum-told-5 c = search needs
 
-listener-requires : tie.Need-listener-requires
-listener-requires c κs = tt
+hear-frame-requires : tie.Need-hear-frame-requires
+hear-frame-requires c κs = tt
 
-hear-requires-2 : tie.Need-hear-requires-2
-hear-requires-2 c κs = tt
-
-by-listener-requires : tie.Need-by-listener-requires
-by-listener-requires c κs = tt
+returns-2 : tie.Need-returns-2
+unfolding hear
+returns-2 c = simp (tests, c .before .enum-told .given .1) (c .silent .ensures)
 
 returns-3 : tie.Need-returns-3
 unfolding hear
-returns-3 c = simp (tests, c .before .before .before .if3 .taken, c .before .before .before .before .enum-told5 .given .1, ← c .before .hear2 .ensures, ← c .before .before .listener .ensures) (c .by-listener .ensures)
-
-dropped-requires-2 : tie.Need-dropped-requires-2
-dropped-requires-2 c κs = tt
-
-silent-requires-5 : tie.Need-silent-requires-5
-silent-requires-5 c κs = tt
+returns-3 c = simp (tests, c .before .enum-told2 .given .1) (c .hear-character .ensures)
 
 returns-4 : tie.Need-returns-4
-unfolding hear
-returns-4 c = simp (tests, c .before .enum-told .given .1) (c .silent .ensures)
-
-returns-5 : tie.Need-returns-5
-unfolding hear
-returns-5 c = simp (tests, c .before .before .if2 .left, c .before .before .before .enum-told2 .given .1, ← c .before .dropped .ensures) (c .silent2 .ensures)
-
-returns-6 : tie.Need-returns-6
-returns-6 c =
+returns-4 c =
     void (sym (c .before .before .before .if1 .left) ∙ c .before .before .before .before .in-blocks .ensures ∙ ap inBlocks (c .before .enum-told3 .given .1))
 
-returns-7 : tie.Need-returns-7
-returns-7 c =
+returns-5 : tie.Need-returns-5
+returns-5 c =
     void (sym (c .before .before .before .if1 .left) ∙ c .before .before .before .before .in-blocks .ensures ∙ ap inBlocks (c .before .enum-told4 .given .1))
 
-returns-8 : tie.Need-returns-8
+returns-6 : tie.Need-returns-6
 unfolding hear
-returns-8 c = simp (tests, c .before .before .if3 .left, c .before .before .before .enum-told5 .given .1, ← c .before .dropped2 .ensures) (c .silent5 .ensures)
+returns-6 c = simp (tests, c .before .enum-told5 .given .1) (c .hear-frame .ensures)
 
 pub hear-spec : {M : Type 1} → statement M
 hear-spec =
@@ -110,24 +81,15 @@ hear-spec =
     enum-told
     silent-requires
     enum-told-2
-    hear-requires
-    by-assembly-requires
-    returns-2
-    dropped-requires
-    silent-requires-2
+    hear-character-requires
     enum-told-3
-    silent-requires-3
+    silent-requires-2
     enum-told-4
-    silent-requires-4
+    silent-requires-3
     enum-told-5
-    listener-requires
-    hear-requires-2
-    by-listener-requires
+    hear-frame-requires
+    returns-2
     returns-3
-    dropped-requires-2
-    silent-requires-5
     returns-4
     returns-5
-    returns-6
-    returns-7
-    returns-8)
+    returns-6)
