@@ -6,9 +6,34 @@ use pen::room_from;
 use zeros::Counted;
 use zeros::lacks_room;
 ghost use mathlib.Core.Path.{_≡_};
-ghost use Rattle.lent.specs.Lent.{writeBy, bufferBy};
+ghost use mathlib.Core.Bool.{true};
+ghost use mathlib.Core.List.{_++_};
+ghost use Prim.Native.Nat.{_≤_};
+ghost use lib.ListN.{length, take, drop};
+ghost use Rattle.line.specs.Line.{noteFits};
+ghost use Rattle.laid.specs.Laid.{frameStamped};
+ghost use Rattle.lent.specs.Lent.{zerosStamped, writeBy, bufferBy};
 
-// The note's frame, one bit per byte, at a place inside the caller's buffer. The zeros inserted are what the content takes beyond its own bits.
+// A note's frame laid out at a place; gives the zeros inserted, which are what the content takes beyond its own bits.
+fn lay_at(
+    checks: &[u16; 256],
+    stamps: &[u16; 1280],
+    fours: &[u32; 16],
+    note: &[u8],
+    out: &mut [u8],
+    at: usize,
+) -> usize
+    requires { ⌜ noteFits (length (now note)) ≡ true ⌝ }
+    requires { ⌜ at ≤ length (now out) ⌝ }
+    ensures { λ r. ⌜ r ≡ zerosStamped (now (checks .entry)) (now (stamps .entry)) (now (fours .entry)) (drop at (now (out .entry))) (now (note .entry)) ⌝ }
+    ensures { λ r. ⌜ now (out .exit) ≡ take at (now (out .entry)) ++ frameStamped (now (checks .entry)) (now (stamps .entry)) (now (fours .entry)) (drop at (now (out .entry))) (now (note .entry)) ⌝ }
+{
+    let least = 8 + 8 * (note.len() + 2);
+    let end = lay_frame(&mut out[at..], note, checks, stamps, fours);
+    room_from(end, least)
+}
+
+// The note's frame, one bit per byte, at a place inside the caller's buffer.
 pub fn write_line_by(
     checks: &[u16; 256],
     stamps: &[u16; 1280],
@@ -24,9 +49,7 @@ pub fn write_line_by(
         if lacks_room(note, room_from(out.len(), at)) {
             return Counted::Refused(Refusal::NoRoom);
         }
-        let least = 8 + 8 * (note.len() + 2);
-        let end = lay_frame(&mut out[at..], note, checks, stamps, fours);
-        return Counted::Zeros(room_from(end, least));
+        return Counted::Zeros(lay_at(checks, stamps, fours, note, out, at));
     }
     Counted::Refused(Refusal::NoteLength)
 }

@@ -1,6 +1,12 @@
 -- `laid::lay_frame` meets its contract: flag, content, flag. Assumes nothing.
-use mathlib.Core.Path.{refl}
+use mathlib.Core.Path.{ap, _∙_}
+use mathlib.Core.List.{List}
+use Prim.Native.Nat.{ℕ}
+use denote.Ref.{now}
 use borrow.Author.Needs.{needs}
+use Rattle.pen.specs.Pen.{flagPut}
+use Rattle.bytewise.specs.Bytewise.{Plate}
+use Rattle.tabled.specs.Tabled.{contentStamped}
 use Rattle.laid.specs.Laid.{endStamped, frameStamped}
 use Rattle.laid.proofs.lay_frame.Statement.{statement}
 use Rattle.laid.proofs.lay_frame.Tie as tie
@@ -20,9 +26,17 @@ same-length c = search needs
 returns : tie.Need-returns
 unfolding endStamped frameStamped
 returns c =
-    let content = c .before .before .before .before .before .before .put-content .ensures in
-    let opening = c .before .before .before .before .before .before .before .before .before .before .put-flag .ensures in
-    rw (c .before .before .put-flag2 .ensures, content .0, content .1, opening) (refl, refl)
+    let content = c .before .before .before .before .before .before in
+    let opened = content .before .before .before .before in
+    let a = opened .before .before .before .before .args in
+    let put : List ℕ → Plate = λ l. contentStamped (now (a .checks)) (now (a .stamps)) (now (a .fours)) l (now (a .note)) in
+    let e = content .put-content .ensures in
+    let opening = opened .put-flag .ensures in (
+      e .0 ∙ ap (λ (l : List ℕ). put l .press .at) opening,
+      c .before .before .put-flag2 .ensures
+      ∙ (λ i. flagPut (e .1 i) (e .0 i))
+      ∙ ap (λ (l : List ℕ). flagPut (put l .buffer) (put l .press .at)) opening,
+    )
 
 pub lay-frame-spec : {M : Type 1} → statement M
 lay-frame-spec =
