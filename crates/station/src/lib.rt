@@ -90,9 +90,7 @@ pub fn send_list(c: Chip, list: &[u8], rows: &mut [usize], between: Between) -> 
 {
     let s = scan(list);
     let w = Walk::start(s, rows.len());
-    let x = note_sent(Told::Gone {
-        zeros: 0,
-        ticks: 0,
-    }, c);
-    send_notes(x, s, w, list, rows, between)
+    // nothing has gone
+    let t = Told::Gone { zeros: 0, ticks: 0 };
+    send_notes(note_sent(t, c), s, w, list, rows, between)
 }
