@@ -34,8 +34,8 @@ returns c =
     let opening = opened .put-flag .ensures in (
       e .0 ∙ ap (λ (l : List ℕ). put l .press .at) opening,
       c .before .before .put-flag2 .ensures
-      ∙ (λ i. flagPut (e .1 i) (e .0 i))
-      ∙ ap (λ (l : List ℕ). flagPut (put l .buffer) (put l .press .at)) opening,
+          ∙ (λ i. flagPut (e .1 i) (e .0 i))
+          ∙ ap (λ (l : List ℕ). flagPut (put l .buffer) (put l .press .at)) opening,
     )
 
 pub lay-frame-spec : {M : Type 1} → statement M

@@ -55,7 +55,7 @@ loop-again c =
       next .next .kept .1 .1 .0 ∙ l .inv .0,
       next .next .kept .1 .1 .1 .0 ∙ l .inv .1,
       (λ i. allRounds input (playing (n .0 i) (turned .turned .result .chip) (n .1 .0 i) (n .1 .1 i)))
-      ∙ played ∙ sym (rounds-step input here (test .if1 .taken)) ∙ l .inv .2,
+          ∙ played ∙ sym (rounds-step input here (test .if1 .taken)) ∙ l .inv .2,
     )
 
 same-length : tie.Need-same-length Inv-loop μ-loop

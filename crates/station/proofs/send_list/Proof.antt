@@ -35,8 +35,8 @@ returns c =
     let list = now (a .list) in
     let r = notes .send-notes .ensures in (
       r .0
-      ∙ ap (λ (x : Sent). listSent (listedOf (reportOf (a .between) list)) (chipAfter (a .between) (x .chip) (readList list)))
-      (first .note-sent .ensures),
+          ∙ ap (λ (x : Sent). listSent (listedOf (reportOf (a .between) list)) (chipAfter (a .between) (x .chip) (readList list)))
+          (first .note-sent .ensures),
       r .1,
     )
 
