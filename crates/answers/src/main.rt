@@ -3,6 +3,8 @@
 // All that matters is in the crate playing, and in items and calls below it.
 ghost use mathlib.Core.Path.{_≡_};
 ghost use lib.ListN.{length};
+ghost use Rattle.items.specs.Lines.{ended};
+ghost use Rattle.playing.specs.Playing.{played};
 
 // Room for all items.
 const INPUT: usize = 262144;
@@ -22,11 +24,19 @@ fn space() -> [u8; SPACE]
     [0; SPACE]
 }
 
+// The items are played, and the last line told; gives where the lines end.
+fn told(input: &[u8], desk: &mut [u8], out: &mut [u8]) -> usize
+    ensures { λ r. ⌜ r ≡ ended (played (now (input .entry)) (now (desk .entry)) (now (out .entry)) .sheet) (played (now (input .entry)) (now (desk .entry)) (now (out .entry)) .out) .end ⌝ }
+    ensures { λ r. ⌜ now (out .exit) ≡ ended (played (now (input .entry)) (now (desk .entry)) (now (out .entry)) .sheet) (played (now (input .entry)) (now (desk .entry)) (now (out .entry)) .out) .cells ⌝ }
+{
+    let s = playing::play(input, desk, out);
+    items::ended(s, out)
+}
+
 // The items are read and played, and all lines told at once.
 fn run(input: &mut [u8], desk: &mut [u8], out: &mut [u8]) {
     let n = io::read_full(0, input);
-    let s = playing::play(items::all_read(input, n), desk, out);
-    let end = items::ended(s, out);
+    let end = told(items::all_read(input, n), desk, out);
     io::write_all(1, items::part(out, 0, end));
 }
 
