@@ -6,7 +6,7 @@ use entry::Entry;
 ghost use mathlib.Core.Path.{_≡_};
 ghost use Prim.Native.Nat.{_≤_};
 ghost use Rattle.line.specs.Bits.{oneIf};
-ghost use Rattle.asynchronous.specs.Hearing.{size, begunAs, bitsWith, withBit, finished, inSilence, released, stopped, hearCharacter};
+ghost use Rattle.asynchronous.specs.Hearing.{size, begunAs, bitsWith, withBit, inSilence, stopped, hearCharacter};
 
 // How many data bits a character has.
 fn size(length: u8) -> u8
@@ -74,19 +74,6 @@ impl Assembly {
         }
     }
 
-    // The character with its marks, at its stop bit.
-    fn finished(self, stop: bool) -> Entry
-        ensures { λ r. ⌜ r ≡ finished self stop ⌝ }
-    {
-        Entry::received(
-            self.bits,
-            self.parity & (self.odd == self.even),
-            !stop,
-            false,
-            false,
-        )
-    }
-
     // A tick that hands nothing over.
     fn in_silence(self, broken: bool) -> Assembled
         ensures { λ r. ⌜ r ≡ inSilence self broken ⌝ }
@@ -99,15 +86,7 @@ impl Assembly {
         }
     }
 
-    // The 1 that was waited for.
-    fn released(mut self) -> Assembly
-        ensures { λ r. ⌜ r ≡ released self ⌝ }
-    {
-        self.wait = false;
-        self
-    }
-
-    // The stop bit queues the character.
+    // The stop bit queues the character with its marks.
     fn stopped(self, broken: bool, stop: bool) -> Assembled
         ensures { λ r. ⌜ r ≡ stopped self broken stop ⌝ }
     {
@@ -115,18 +94,25 @@ impl Assembly {
             assembly: Assembly::none(!stop),
             broken: broken | (self.blank & !stop),
             some: true,
-            entry: self.finished(stop),
+            entry: Entry::received(
+                self.bits,
+                self.parity & (self.odd == self.even),
+                !stop,
+                false,
+                false,
+            ),
         }
     }
 
     // One receive tick while on; broken is RR0 D7.
-    pub fn hear(self, g: Format, broken: bool, b: bool) -> Assembled
+    pub fn hear(mut self, g: Format, broken: bool, b: bool) -> Assembled
         ensures { λ r. ⌜ r ≡ hearCharacter g self broken b ⌝ }
     {
         let left = self.left;
         if self.wait {
             if b {
-                return self.released().in_silence(false);
+                self.wait = false;
+                return self.in_silence(false);
             }
             return self.in_silence(broken);
         }

@@ -9,7 +9,7 @@ ghost use mathlib.Core.Path.{_≡_};
 ghost use Prim.Native.Nat.{_+_, _*_, _%_, _^_, _≤_};
 ghost use lib.ListN.{length};
 ghost use Rattle.line.specs.Bits.{fromLow};
-ghost use Rattle.asynchronous.specs.Sending.{stopBits, characterOf, startCharacter, idling, tickCharacter};
+ghost use Rattle.asynchronous.specs.Sending.{stopBits, characterOf, idling, tickCharacter};
 
 // The number of stop bits.
 fn stop_count(stops: u8) -> u8
@@ -78,24 +78,17 @@ impl Typing {
         }
     }
 
-    // The start bit of the character in the buffer.
-    fn start_character(self, k: Shared) -> Typed
-        ensures { λ r. ⌜ r ≡ startCharacter self k ⌝ }
-    {
-        Typed {
-            bit: false,
-            loaded: true,
-            character: self.character(k.buffer),
-            shared: k.emptied(),
-        }
-    }
-
-    // No character is under way: one is loaded if it may be.
+    // No character is under way: the start bit of the one in the buffer, if it may be loaded.
     fn idling(self, c: Character, k: Shared) -> Typed
         ensures { λ r. ⌜ r ≡ idling self c k ⌝ }
     {
         if self.on & k.full {
-            return self.start_character(k);
+            return Typed {
+                bit: false,
+                loaded: true,
+                character: self.character(k.buffer),
+                shared: k.emptied(),
+            };
         }
         Typed {
             bit: true,

@@ -7,8 +7,8 @@ use crate::Syncs;
 use entry::Entry;
 use line::check_byte;
 ghost use mathlib.Core.Path.{_≡_};
-ghost use Rattle.bytesync.specs.Hearing.{reception, unmatched, shiftIn, lastEight, counted, syncSeen, hunting};
-ghost use Rattle.bytesync.specs.Hearing.{expected, leads, entering, arrived, assembling, hearBlock};
+ghost use Rattle.bytesync.specs.Hearing.{unmatched, shiftIn, counted, syncSeen, hunting};
+ghost use Rattle.bytesync.specs.Hearing.{leads, entering, arrived, assembling, hearBlock};
 
 // A bit enters from above.
 pub(crate) fn shift_in(b: bool, s: u16) -> u16
@@ -18,13 +18,6 @@ pub(crate) fn shift_in(b: bool, s: u16) -> u16
         return s / 2 + 32768;
     }
     s / 2
-}
-
-// The last eight bits.
-fn last_eight(s: u16) -> u8
-    ensures { λ r. ⌜ r ≡ lastEight s ⌝ }
-{
-    (s / 256) as u8
 }
 
 // One bit more since hunt began.
@@ -45,36 +38,18 @@ impl Syncs {
         (8 <= n) & (s / 256 == self.second as u16)
     }
 
-    // The next leading sync.
-    fn expected(self, turn: bool) -> u8
-        ensures { λ r. ⌜ r ≡ expected self turn ⌝ }
-    {
-        if self.both & !turn {
-            return self.first;
-        }
-        self.second
-    }
-
-    // The character is a leading sync.
+    // The character is the next leading sync.
     fn leads(self, d: Block, v: u8) -> bool
         ensures { λ r. ⌜ r ≡ leads self d v ⌝ }
     {
-        d.leading & (v == self.expected(d.turn))
+        if self.both & !d.turn {
+            return d.leading & (v == self.first);
+        }
+        d.leading & (v == self.second)
     }
 }
 
 impl Reception {
-    fn of(hunt: bool, bits: u16, count: u8, block: Block) -> Reception
-        ensures { λ r. ⌜ r ≡ reception hunt bits count block ⌝ }
-    {
-        Reception {
-            hunt,
-            bits,
-            count,
-            block,
-        }
-    }
-
     // A tick that hands nothing over.
     fn unmatched(self, check: u16) -> Matched
         ensures { λ r. ⌜ r ≡ unmatched self check ⌝ }
@@ -100,7 +75,13 @@ impl Matching {
             return Reception::at(false, Block::none(true)).unmatched(check);
         }
         let block = r.block;
-        Reception::of(true, s, n, block).unmatched(check)
+        let on = Reception {
+            hunt: true,
+            bits: s,
+            count: n,
+            block,
+        };
+        on.unmatched(check)
     }
 
     // The check when the next character is complete.
@@ -140,9 +121,15 @@ impl Matching {
         let s = shift_in(b, r.bits);
         let block = r.block;
         if r.count < 7 {
-            return Reception::of(false, s, r.count + 1, block).unmatched(check);
+            let on = Reception {
+                hunt: false,
+                bits: s,
+                count: r.count + 1,
+                block,
+            };
+            return on.unmatched(check);
         }
-        self.arrived(block, check, last_eight(s))
+        self.arrived(block, check, (s / 256) as u8)
     }
 
     // One receive tick.

@@ -17,9 +17,9 @@ impl BlockUnit {
     {
         match self {
             BlockUnit::Mark => 0,
-            BlockUnit::Sync(n, v) => 0,
-            BlockUnit::Byte(n, v) => n,
-            BlockUnit::Check(n, v) => 0,
+            BlockUnit::Sync(_, _) => 0,
+            BlockUnit::Byte(n, _) => n,
+            BlockUnit::Check(_, _) => 0,
         }
     }
 
@@ -29,9 +29,9 @@ impl BlockUnit {
     {
         match self {
             BlockUnit::Mark => 0,
-            BlockUnit::Sync(n, v) => 0,
-            BlockUnit::Byte(n, v) => v,
-            BlockUnit::Check(n, v) => 0,
+            BlockUnit::Sync(_, _) => 0,
+            BlockUnit::Byte(_, v) => v,
+            BlockUnit::Check(_, _) => 0,
         }
     }
 }

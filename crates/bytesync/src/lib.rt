@@ -106,9 +106,9 @@ impl BlockUnit {
     {
         match self {
             BlockUnit::Mark => false,
-            BlockUnit::Sync(n, v) => false,
-            BlockUnit::Byte(n, v) => false,
-            BlockUnit::Check(n, v) => true,
+            BlockUnit::Sync(_, _) => false,
+            BlockUnit::Byte(_, _) => false,
+            BlockUnit::Check(_, _) => true,
         }
     }
 }

@@ -7,8 +7,8 @@ use crate::inside::less_one;
 use shared::Shared;
 ghost use mathlib.Core.Path.{_≡_};
 ghost use Rattle.bytesync.specs.Syncs.{pair};
-ghost use Rattle.bytesync.specs.Sending.{sentBit, startMark, syncSent, syncLeft, startSync, startByte, startCheck};
-ghost use Rattle.bytesync.specs.Sending.{byteOrSync, underrun, following, next, tickBlock};
+ghost use Rattle.bytesync.specs.Sending.{sentBit, startSync, startByte, startCheck};
+ghost use Rattle.bytesync.specs.Sending.{byteOrSync, underrun, following, tickBlock};
 ghost use Rattle.bytesync.specs.Within.{unitLeft, goingOn};
 
 impl Syncs {
@@ -17,23 +17,6 @@ impl Syncs {
         ensures { λ r. ⌜ r ≡ pair self ⌝ }
     {
         self.first as u16 + self.second as u16 * 256
-    }
-
-    // The sync that is sent, as a number.
-    fn sent(self) -> u16
-        ensures { λ r. ⌜ r ≡ syncSent self ⌝ }
-    {
-        if self.both {
-            return self.pair();
-        }
-        self.first as u16
-    }
-
-    // Its bits behind the first.
-    fn left(self) -> u8
-        ensures { λ r. ⌜ r ≡ syncLeft self ⌝ }
-    {
-        if self.both { 15 } else { 7 }
     }
 }
 
@@ -48,12 +31,6 @@ impl Synced {
             unit,
             shared,
         }
-    }
-
-    fn mark(k: Shared) -> Synced
-        ensures { λ r. ⌜ r ≡ startMark k ⌝ }
-    {
-        Synced::sent(true, BlockUnit::Mark, k)
     }
 
     // The check's first bit.
@@ -71,8 +48,12 @@ impl Syncing {
         ensures { λ r. ⌜ r ≡ startSync self k ⌝ }
     {
         let y = self.syncs;
-        let v = y.sent();
-        Synced::sent(v % 2 == 1, BlockUnit::Sync(y.left(), v / 2), k)
+        if y.both {
+            let v = y.pair();
+            return Synced::sent(v % 2 == 1, BlockUnit::Sync(15, v / 2), k);
+        }
+        let v = y.first as u16;
+        Synced::sent(v % 2 == 1, BlockUnit::Sync(7, v / 2), k)
     }
 
     // The first bit of the byte in the buffer.
@@ -114,35 +95,28 @@ impl Syncing {
     {
         match u {
             BlockUnit::Mark => self.start_sync(k),
-            BlockUnit::Sync(n, v) => self.byte_or_sync(k),
-            BlockUnit::Byte(n, v) => {
+            BlockUnit::Sync(_, _) => self.byte_or_sync(k),
+            BlockUnit::Byte(_, _) => {
                 if k.full {
                     return self.start_byte(k);
                 }
                 self.underrun(k)
             }
-            BlockUnit::Check(n, v) => self.byte_or_sync(k),
+            BlockUnit::Check(_, _) => self.byte_or_sync(k),
         }
-    }
-
-    // The first bit of the unit behind u.
-    fn next(self, u: BlockUnit, k: Shared) -> Synced
-        ensures { λ r. ⌜ r ≡ next self u k ⌝ }
-    {
-        if self.on {
-            return self.following(u, k);
-        }
-        Synced::mark(k)
     }
 
     // One transmit tick, u under way.
     pub fn tick(self, u: BlockUnit, k: Shared) -> Synced
         ensures { λ r. ⌜ r ≡ tickBlock self u k ⌝ }
     {
-        if u.left() == 0 {
-            return self.next(u, k);
+        if u.left() != 0 {
+            return u.going_on(k);
         }
-        u.going_on(k)
+        if self.on {
+            return self.following(u, k);
+        }
+        Synced::sent(true, BlockUnit::Mark, k)
     }
 }
 
@@ -153,9 +127,9 @@ impl BlockUnit {
     {
         match self {
             BlockUnit::Mark => 0,
-            BlockUnit::Sync(n, v) => n,
-            BlockUnit::Byte(n, v) => n,
-            BlockUnit::Check(n, v) => n,
+            BlockUnit::Sync(n, _) => n,
+            BlockUnit::Byte(n, _) => n,
+            BlockUnit::Check(n, _) => n,
         }
     }
 
@@ -164,7 +138,7 @@ impl BlockUnit {
         ensures { λ r. ⌜ r ≡ goingOn self k ⌝ }
     {
         match self {
-            BlockUnit::Mark => Synced::mark(k),
+            BlockUnit::Mark => Synced::sent(true, BlockUnit::Mark, k),
             BlockUnit::Sync(n, v) => {
                 Synced::sent(v % 2 == 1, BlockUnit::Sync(less_one(n), v / 2), k)
             }

@@ -60,7 +60,7 @@ impl Answer {
     {
         match self {
             Answer::Done => 0,
-            Answer::Gave(v) => 0,
+            Answer::Gave(_) => 0,
             Answer::Refused(k) => k.number(),
         }
     }
@@ -72,7 +72,7 @@ impl Answer {
         match self {
             Answer::Done => 0,
             Answer::Gave(v) => v,
-            Answer::Refused(k) => 0,
+            Answer::Refused(_) => 0,
         }
     }
 }

@@ -46,14 +46,11 @@ impl Chip {
     pub fn reset() -> Chip
         ensures { λ r. ⌜ r ≡ hardReset ⌝ }
     {
-        let off = Lines {
+        let c = Channel::reset(Lines {
             dcd: false,
             cts: false,
-        };
-        Chip {
-            a: Channel::reset(off),
-            b: Channel::reset(off),
-        }
+        });
+        Chip { a: c, b: c }
     }
 
     // A's answer, with B as it was; and B's, with A.
@@ -237,14 +234,15 @@ impl Chip {
     }
 
     // Acknowledge.
-    pub fn acknowledge(self) -> Acknowledged
+    pub fn acknowledge(mut self) -> Acknowledged
         ensures { λ r. ⌜ r ≡ acknowledge self ⌝ }
     {
         let t = acknowledging(self.a, self.b);
         let w = t.acked;
+        self = self.in_service(t.service);
         Acknowledged {
             acked: w,
-            chip: self.in_service(t.service),
+            chip: self,
         }
     }
 

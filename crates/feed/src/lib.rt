@@ -89,9 +89,9 @@ fn frame_ended(s: Framer) -> bool
     match u {
         LineUnit::Mark => false,
         LineUnit::Flag(n) => s.shared.latch & (n == 0),
-        LineUnit::Byte(n, v) => false,
-        LineUnit::Check(n, v) => false,
-        LineUnit::Abort(n) => false,
+        LineUnit::Byte(_, _) => false,
+        LineUnit::Check(_, _) => false,
+        LineUnit::Abort(_) => false,
     }
 }
 

@@ -14,7 +14,7 @@ use sdlc::not_counted;
 use shared::Shared;
 ghost use mathlib.Core.Path.{_≡_};
 ghost use mathlib.Core.Bool.{false};
-ghost use Rattle.sdlc.specs.Sending.{startMark, startFlag, startByte, startCheck, following, next, flagBit, going, tickSdlc};
+ghost use Rattle.sdlc.specs.Sending.{startMark, startFlag, startByte, startCheck, following, going, tickSdlc};
 ghost use Prim.Native.Nat.{_-_};
 ghost use Rattle.sdlc.specs.Sending.{sentBit, paid, noBitLeft, goesOn, byteOn, checkOn, cutShort, abortedBy};
 
@@ -83,13 +83,13 @@ fn following(g: Framing, u: LineUnit, run: u8, k: Shared) -> Framed
         LineUnit::Mark => {
             return start_flag(k);
         }
-        LineUnit::Flag(n) => {
+        LineUnit::Flag(_) => {
             if k.full {
                 return start_byte(g, run, k);
             }
             return start_flag(k);
         }
-        LineUnit::Byte(n, v) => {
+        LineUnit::Byte(_, _) => {
             if k.full {
                 return start_byte(g, run, k);
             }
@@ -98,30 +98,13 @@ fn following(g: Framing, u: LineUnit, run: u8, k: Shared) -> Framed
             }
             return start_flag(k.latched());
         }
-        LineUnit::Check(n, v) => {
+        LineUnit::Check(_, _) => {
             return start_flag(k);
         }
-        LineUnit::Abort(n) => {
+        LineUnit::Abort(_) => {
             return start_flag(k);
         }
     }
-}
-
-// The next unit's first bit.
-fn next(g: Framing, u: LineUnit, run: u8, k: Shared) -> Framed
-    ensures { λ r. ⌜ r ≡ next g u run k ⌝ }
-{
-    if g.on {
-        return following(g, u, run, k);
-    }
-    start_mark(k)
-}
-
-// A flag's bit when n are still to be sent.
-fn flag_bit(n: u8) -> bool
-    ensures { λ r. ⌜ r ≡ flagBit n ⌝ }
-{
-    (n != 8) & (n != 1)
 }
 
 // No bit of this unit is left.
@@ -131,8 +114,8 @@ fn no_bit_left(u: LineUnit) -> bool
     match u {
         LineUnit::Mark => true,
         LineUnit::Flag(n) => n == 0,
-        LineUnit::Byte(n, v) => n == 0,
-        LineUnit::Check(n, v) => n == 0,
+        LineUnit::Byte(n, _) => n == 0,
+        LineUnit::Check(n, _) => n == 0,
         LineUnit::Abort(n) => n == 0,
     }
 }
@@ -178,7 +161,12 @@ fn goes_on(u: LineUnit, run: u8, k: Shared) -> Framed
 {
     match u {
         LineUnit::Mark => start_mark(k),
-        LineUnit::Flag(n) => sent_bit(flag_bit(n), LineUnit::Flag(less_one(n)), not_counted(), k),
+        LineUnit::Flag(n) => sent_bit(
+            (n != 8) & (n != 1),
+            LineUnit::Flag(less_one(n)),
+            not_counted(),
+            k,
+        ),
         LineUnit::Byte(n, v) => byte_on(n, v, run, k),
         LineUnit::Check(n, v) => check_on(n, v, run, k),
         LineUnit::Abort(n) => sent_bit(true, LineUnit::Abort(less_one(n)), not_counted(), k),
@@ -190,7 +178,10 @@ fn going(g: Framing, u: LineUnit, run: u8, k: Shared) -> Framed
     ensures { λ r. ⌜ r ≡ going g u run k ⌝ }
 {
     if no_bit_left(u) {
-        return next(g, u, run, k);
+        if g.on {
+            return following(g, u, run, k);
+        }
+        return start_mark(k);
     }
     goes_on(u, run, k)
 }

@@ -15,7 +15,7 @@ use sdlc::Listener;
 ghost use mathlib.Core.Path.{_≡_};
 ghost use Prim.Native.Nat.{_≤_};
 ghost use Rattle.line.specs.Bits.{oneIf};
-ghost use Rattle.sdlc.specs.Hearing.{onesCounted, shiftIn, wrong, listener, unheard, dropping, withOnes, accept, push, closing, pastFlag, one, zeroBit, hearSdlc};
+ghost use Rattle.sdlc.specs.Hearing.{onesCounted, shiftIn, wrong, listener, unheard, dropping, withOnes, accept, push, closing, one, zeroBit, hearSdlc};
 
 // The least of the full delays.
 const FULL: u8 = 128;
@@ -72,17 +72,6 @@ fn unheard(listener: Listener) -> Listened
         listener,
         some: false,
         entry: Entry::none(),
-    }
-}
-
-// A flag has just ended.
-fn past_flag() -> Listener
-    ensures { λ r. ⌜ r ≡ pastFlag ⌝ }
-{
-    Listener {
-        content: Content::at(false, false, 0),
-        check: ONES,
-        broken: false,
     }
 }
 
@@ -212,7 +201,11 @@ fn zero_bit(g: Addressing, s: Listener) -> Listened
     let deaf = s.content.hunt | s.content.skip;
     if n == FLAG {
         return Listened {
-            listener: past_flag(),
+            listener: Listener {
+                content: Content::at(false, false, 0),
+                check: ONES,
+                broken: false,
+            },
             some: !deaf & s.content.chars.have,
             entry: closing(s.content.chars, s.check),
         };

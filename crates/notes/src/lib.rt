@@ -26,7 +26,7 @@ impl Scanned {
         ensures { λ r. ⌜ r ≡ scannedNumber self ⌝ }
     {
         match self {
-            Scanned::Notes(n) => 0,
+            Scanned::Notes(_) => 0,
             Scanned::Refused(k) => k.number(),
         }
     }
@@ -37,7 +37,7 @@ impl Scanned {
     {
         match self {
             Scanned::Notes(n) => n,
-            Scanned::Refused(k) => 0,
+            Scanned::Refused(_) => 0,
         }
     }
 }

@@ -50,8 +50,8 @@ fn ticks_to_flag(u: LineUnit) -> usize
     match u {
         LineUnit::Mark => FLAG,
         LineUnit::Flag(n) => wide(n),
-        LineUnit::Byte(n, v) => 0,
-        LineUnit::Check(n, v) => 0,
+        LineUnit::Byte(_, _) => 0,
+        LineUnit::Check(_, _) => 0,
         LineUnit::Abort(n) => wide(n) + FLAG,
     }
 }

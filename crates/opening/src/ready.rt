@@ -28,10 +28,10 @@ fn between_frames(u: LineUnit) -> bool
 {
     match u {
         LineUnit::Mark => true,
-        LineUnit::Flag(n) => true,
-        LineUnit::Byte(n, v) => false,
-        LineUnit::Check(n, v) => false,
-        LineUnit::Abort(n) => true,
+        LineUnit::Flag(_) => true,
+        LineUnit::Byte(_, _) => false,
+        LineUnit::Check(_, _) => false,
+        LineUnit::Abort(_) => true,
     }
 }
 

@@ -4,6 +4,8 @@ use mathlib.Core.List.{List}
 use Prim.Native.Nat.{ℕ, zero, suc}
 use lib.Dec.{eqb, ltb}
 use Rattle.common.specs.Choice.{if_then_else_}
+use Rattle.channel.specs.declared.Answer.{Answer}
+use Rattle.channel.specs.declared.Answer.the-variants.{Done, Gave}
 use Rattle.channel.specs.Answer.{answerNumber, answerValue}
 use Rattle.chip.specs.declared.Chip.{Chip}
 use Rattle.chip.specs.declared.Outcome.{Outcome}
@@ -16,20 +18,16 @@ use Rattle.items.specs.Item.{registerKind, listKind, sharedListKind, stopKind}
 use Rattle.items.specs.Sheet.{startSheet, answered, dealtSheet, dealtDesk, itemsLeft}
 use Rattle.items.specs.Lines.{told}
 use Rattle.calls.specs.Calls.{valueOf}
-use Rattle.playing.specs.declared.Turn.{Turn}
 use Rattle.playing.specs.List.{listGave}
 
 -- An item
 
--- it gave a refusal's number and a value
-abbrev pub turn : ℕ → ℕ → Chip → Turn
-turn number value c = record { number = number; value = value; chip = c }
+-- what it gave, and the chip behind it
+abbrev pub outcome : Answer → Chip → Outcome
+outcome w c = record { answer = w; chip = c }
 
-abbrev pub answerTurn : Outcome → Turn
-answerTurn o = turn (answerNumber (o .answer)) (answerValue (o .answer)) (o .chip)
-
-abbrev pub eventTurn : Chip → Item → Turn
-eventTurn c i = answerTurn (step c (i .kind) (i .x) (i .y) (i .z))
+abbrev pub eventOutcome : Chip → Item → Outcome
+eventOutcome c i = step c (i .kind) (i .x) (i .y) (i .z)
 
 -- what a call gives that is no event: a list went through the chip, or the register is looked at
 -- that the item may name
@@ -39,12 +37,16 @@ otherValue c s desk =
     else valueOf s (registerOf c (s .item .x) (s .item .y)) desk
 
 -- an event answers and changes the chip; no answer asks for the chip behind another call
-unfoldable pub turned : Chip → Sheet → List ℕ → Turn
+unfoldable pub turned : Chip → Sheet → List ℕ → Outcome
 turned c s desk =
-    if ltb (s .item .kind) registerKind then eventTurn c (s .item)
-    else turn 0 (otherValue c s desk) c
+    if ltb (s .item .kind) registerKind then eventOutcome c (s .item)
+    else outcome (Gave (otherValue c s desk)) c
 
 -- All items
+
+-- a hard reset, and nothing was answered
+abbrev pub atFirst : Outcome
+atFirst = outcome Done hardReset
 
 -- how far it has come: the sheet, the chip, the bytes for a call, and the lines
 pub record Play : Type 0 where
@@ -57,17 +59,19 @@ abbrev pub playing : Sheet → Chip → List ℕ → List ℕ → Play
 playing s c desk out = record { sheet = s; chip = c; desk = desk; out = out }
 
 -- the item was answered so, and a case that ends is told
-abbrev pub answeredBy : List ℕ → Play → Turn → Sheet
-answeredBy input p t =
-    answered (p .sheet) (t .number) (t .value) (told (p .sheet) input (p .out) .end)
+abbrev pub judged : Sheet → List ℕ → List ℕ → Answer → Sheet
+judged s input out w = answered s (answerNumber w) (answerValue w) (told s input out .end)
+
+abbrev pub answeredBy : List ℕ → Play → Outcome → Sheet
+answeredBy input p t = judged (p .sheet) input (p .out) (t .answer)
 
 -- the next item
-abbrev pub dealtTo : List ℕ → Play → Turn → Sheet → Play
+abbrev pub dealtTo : List ℕ → Play → Outcome → Sheet → Play
 dealtTo input p t s =
     playing (dealtSheet s input (p .desk)) (t .chip) (dealtDesk s input (p .desk) .cells)
     (told (p .sheet) input (p .out) .cells)
 
-abbrev pub behind : List ℕ → Play → Turn → Play
+abbrev pub behind : List ℕ → Play → Outcome → Play
 behind input p t = dealtTo input p t (answeredBy input p t)
 
 unfoldable pub round : List ℕ → Play → Play

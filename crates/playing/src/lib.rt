@@ -2,19 +2,14 @@
 mod list;
 
 use crate::list::list_value;
+use channel::Answer;
 use chip::Chip;
-use items::Item;
+use chip::Outcome;
 use items::Sheet;
 ghost use mathlib.Core.Path.{_≡_};
-ghost use Rattle.chip.specs.Chip.{hardReset};
-ghost use Rattle.playing.specs.Playing.{turn, eventTurn, otherValue, turned, playing, allRounds, played};
-
-// What an item gave, a refusal's number and a value, and the chip after it.
-struct Turn {
-    number: u8,
-    value: u8,
-    chip: Chip,
-}
+ghost use Rattle.items.specs.Sheet.{dealtSheet, dealtDesk};
+ghost use Rattle.items.specs.Lines.{told};
+ghost use Rattle.playing.specs.Playing.{otherValue, turned, judged, atFirst, playing, allRounds, played};
 
 // What a call other than an event gives.
 fn value_of(c: Chip, s: Sheet, desk: &[u8]) -> u8
@@ -26,55 +21,47 @@ fn value_of(c: Chip, s: Sheet, desk: &[u8]) -> u8
     calls::value_of(s, script::register(c, s.item.x, s.item.y), desk)
 }
 
-// What an event answers. The chip is taken last: each step behind that is dear to prove.
-fn event(c: Chip, i: Item) -> Turn
-    ensures { λ r. ⌜ r ≡ eventTurn c i ⌝ }
-{
-    let o = script::step(c, i.kind, i.x, i.y, i.z);
-    let w = o.answer;
-    let number = w.number();
-    let value = w.value();
-    let chip = o.chip;
-    Turn {
-        number,
-        value,
-        chip,
-    }
-}
-
 // What an event answers; of any other item the value of its call, and the chip as it is: no answer asks for the chip behind a list.
-fn turned(c: Chip, s: Sheet, desk: &[u8]) -> Turn
+fn turned(c: Chip, s: Sheet, desk: &[u8]) -> Outcome
     ensures { λ r. ⌜ r ≡ turned c s (now (desk .entry)) ⌝ }
 {
     if s.item.kind < items::REGISTER {
-        return event(c, s.item);
+        return script::step(c, s.item.kind, s.item.x, s.item.y, s.item.z);
     }
-    Turn {
-        number: 0,
-        value: value_of(c, s, desk),
+    Outcome {
+        answer: Answer::Gave(value_of(c, s, desk)),
         chip: c,
     }
 }
 
-fn start() -> Turn
-    ensures { λ r. ⌜ r ≡ turn 0 0 hardReset ⌝ }
+// The next item, where the last was answered so.
+fn next(s: Sheet, input: &[u8], desk: &mut [u8], out: &mut [u8], w: Answer) -> Sheet
+    ensures { λ r. ⌜ r ≡ dealtSheet (judged s (now (input .entry)) (now (out .entry)) w) (now (input .entry)) (now (desk .entry)) ⌝ }
+    ensures { λ r. ⌜ now (desk .exit) ≡ dealtDesk (judged s (now (input .entry)) (now (out .entry)) w) (now (input .entry)) (now (desk .entry)) .cells ⌝ }
+    ensures { λ r. ⌜ now (out .exit) ≡ told s (now (input .entry)) (now (out .entry)) .cells ⌝ }
 {
-    Turn {
-        number: 0,
-        value: 0,
+    items::next(s, input, desk, out, w.number(), w.value())
+}
+
+fn start() -> Outcome
+    ensures { λ r. ⌜ r ≡ atFirst ⌝ }
+{
+    Outcome {
+        answer: Answer::Done,
         chip: Chip::reset(),
     }
 }
 
-// All rounds that are left, from the chip behind this turn on.
-fn all_rounds(mut t: Turn, mut s: Sheet, input: &[u8], desk: &mut [u8], out: &mut [u8]) -> Sheet
+// All rounds that are left, from the chip behind this answer on.
+fn all_rounds(mut t: Outcome, mut s: Sheet, input: &[u8], desk: &mut [u8], out: &mut [u8]) -> Sheet
     ensures { λ r. ⌜ r ≡ allRounds (now (input .entry)) (playing s (t .chip) (now (desk .entry)) (now (out .entry))) .sheet ⌝ }
     ensures { λ r. ⌜ now (desk .exit) ≡ allRounds (now (input .entry)) (playing s (t .chip) (now (desk .entry)) (now (out .entry))) .desk ⌝ }
     ensures { λ r. ⌜ now (out .exit) ≡ allRounds (now (input .entry)) (playing s (t .chip) (now (desk .entry)) (now (out .entry))) .out ⌝ }
 {
     while s.item.kind != items::STOP {
         t = turned(t.chip, s, desk);
-        s = items::next(s, input, desk, out, t.number, t.value);
+        let w = t.answer;
+        s = next(s, input, desk, out, w);
     }
     s
 }

@@ -31,7 +31,7 @@ impl Pages {
         ensures { λ r. ⌜ r ≡ pagesNumber self ⌝ }
     {
         match self {
-            Pages::Ticks(t) => 0,
+            Pages::Ticks(_) => 0,
             Pages::Refused(k) => k.number(),
         }
     }
@@ -42,7 +42,7 @@ impl Pages {
     {
         match self {
             Pages::Ticks(t) => t,
-            Pages::Refused(k) => 0,
+            Pages::Refused(_) => 0,
         }
     }
 }

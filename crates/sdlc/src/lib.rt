@@ -7,7 +7,7 @@ use shared::Shared;
 ghost use mathlib.Core.Path.{_≡_};
 ghost use Rattle.sdlc.specs.Sending.{notCounted, aborting, checking};
 ghost use Rattle.sdlc.specs.Within.{byteLeft, byteRest};
-ghost use Rattle.sdlc.specs.Hearing.{noChars, contentAt};
+ghost use Rattle.sdlc.specs.Hearing.{contentAt};
 
 // What is on the line. The first number: bits still to be sent; the second: what is left to shift out.
 pub enum LineUnit {
@@ -96,10 +96,10 @@ impl LineUnit {
     {
         match self {
             LineUnit::Mark => false,
-            LineUnit::Flag(n) => false,
-            LineUnit::Byte(n, v) => false,
-            LineUnit::Check(n, v) => false,
-            LineUnit::Abort(n) => true,
+            LineUnit::Flag(_) => false,
+            LineUnit::Byte(_, _) => false,
+            LineUnit::Check(_, _) => false,
+            LineUnit::Abort(_) => true,
         }
     }
 
@@ -109,10 +109,10 @@ impl LineUnit {
     {
         match self {
             LineUnit::Mark => false,
-            LineUnit::Flag(n) => false,
-            LineUnit::Byte(n, v) => false,
-            LineUnit::Check(n, v) => true,
-            LineUnit::Abort(n) => false,
+            LineUnit::Flag(_) => false,
+            LineUnit::Byte(_, _) => false,
+            LineUnit::Check(_, _) => true,
+            LineUnit::Abort(_) => false,
         }
     }
 
@@ -122,10 +122,10 @@ impl LineUnit {
     {
         match self {
             LineUnit::Mark => 0,
-            LineUnit::Flag(n) => 0,
-            LineUnit::Byte(n, v) => n,
-            LineUnit::Check(n, v) => 0,
-            LineUnit::Abort(n) => 0,
+            LineUnit::Flag(_) => 0,
+            LineUnit::Byte(n, _) => n,
+            LineUnit::Check(_, _) => 0,
+            LineUnit::Abort(_) => 0,
         }
     }
 
@@ -135,24 +135,10 @@ impl LineUnit {
     {
         match self {
             LineUnit::Mark => 0,
-            LineUnit::Flag(n) => 0,
-            LineUnit::Byte(n, v) => v,
-            LineUnit::Check(n, v) => 0,
-            LineUnit::Abort(n) => 0,
-        }
-    }
-}
-
-impl Chars {
-    // No bit of a character and none held.
-    fn none() -> Chars
-        ensures { λ r. ⌜ r ≡ noChars ⌝ }
-    {
-        Chars {
-            count: 0,
-            part: 0,
-            have: false,
-            held: 0,
+            LineUnit::Flag(_) => 0,
+            LineUnit::Byte(_, v) => v,
+            LineUnit::Check(_, _) => 0,
+            LineUnit::Abort(_) => 0,
         }
     }
 }
@@ -167,7 +153,12 @@ impl Content {
             skip,
             ones,
             delay: EMPTY,
-            chars: Chars::none(),
+            chars: Chars {
+                count: 0,
+                part: 0,
+                have: false,
+                held: 0,
+            },
         }
     }
 }

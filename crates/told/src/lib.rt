@@ -28,7 +28,7 @@ impl Told {
     {
         match self {
             Told::Gone { zeros, ticks } => zeros,
-            Told::Refused(k) => 0,
+            Told::Refused(_) => 0,
         }
     }
 
@@ -38,7 +38,7 @@ impl Told {
     {
         match self {
             Told::Gone { zeros, ticks } => ticks,
-            Told::Refused(k) => 0,
+            Told::Refused(_) => 0,
         }
     }
 }
@@ -66,7 +66,7 @@ impl Listed {
     {
         match self {
             Listed::All { notes, ticks } => notes,
-            Listed::Refused(k) => 0,
+            Listed::Refused(_) => 0,
         }
     }
 
@@ -76,7 +76,7 @@ impl Listed {
     {
         match self {
             Listed::All { notes, ticks } => ticks,
-            Listed::Refused(k) => 0,
+            Listed::Refused(_) => 0,
         }
     }
 }

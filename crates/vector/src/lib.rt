@@ -66,7 +66,7 @@ impl Acked {
         ensures { λ r. ⌜ r ≡ ackedNumber self ⌝ }
     {
         match self {
-            Acked::Vector(v) => 0,
+            Acked::Vector(_) => 0,
             Acked::NothingWaits => Refusal::NothingWaits.number(),
         }
     }

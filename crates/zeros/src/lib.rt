@@ -19,7 +19,7 @@ impl Counted {
         ensures { λ r. ⌜ r ≡ countedNumber self ⌝ }
     {
         match self {
-            Counted::Zeros(z) => 0,
+            Counted::Zeros(_) => 0,
             Counted::Refused(k) => k.number(),
         }
     }
@@ -30,7 +30,7 @@ impl Counted {
     {
         match self {
             Counted::Zeros(z) => z,
-            Counted::Refused(k) => 0,
+            Counted::Refused(_) => 0,
         }
     }
 }

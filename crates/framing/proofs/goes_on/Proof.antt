@@ -13,9 +13,6 @@ start-mark-requires c κs = tt
 enum-known-u : tie.Need-enum-known-u
 enum-known-u c = search needs
 
-flag-bit-requires : tie.Need-flag-bit-requires
-flag-bit-requires c κs = tt
-
 less-one-requires : tie.Need-less-one-requires
 less-one-requires c κs = tt
 
@@ -53,7 +50,7 @@ returns : tie.Need-returns
 returns c = simp (tests, c .before .enum-told .given .1) (c .start-mark .ensures)
 
 returns-2 : tie.Need-returns-2
-returns-2 c = simp (tests, c .before .before .before .before .before .u .given .1, ← c .before .not-counted .ensures, ← c .before .before .less-one .ensures, ← c .before .before .before .flag-bit .ensures) (c .sent-bit .ensures)
+returns-2 c = simp (tests, c .before .before .before .before .u .given .1, ← c .before .not-counted .ensures, ← c .before .before .less-one .ensures) (c .sent-bit .ensures)
 
 returns-3 : tie.Need-returns-3
 returns-3 c = simp (tests, c .before .before .u2 .given .1) (c .byte-on .ensures)
@@ -71,7 +68,6 @@ goes-on-spec =
     enum-told
     start-mark-requires
     enum-known-u
-    flag-bit-requires
     less-one-requires
     not-counted-requires
     sent-bit-requires

@@ -4,15 +4,15 @@ use Rattle.sdlc.specs.Hearing.{zeroBit}
 use Rattle.listening.proofs.zero_bit.Statement.{statement}
 use Rattle.listening.proofs.zero_bit.Tie as tie
 
-past-flag-requires : tie.Need-past-flag-requires
-past-flag-requires c κs = tt
+at-requires : tie.Need-at-requires
+at-requires c κs = tt
 
 closing-requires : tie.Need-closing-requires
 closing-requires c κs = tt
 
 returns : tie.Need-returns
 unfolding zeroBit
-returns c = simp (tests, c .closing .ensures, c .before .before .before .if1 .taken, ← c .before .before .past-flag .ensures)
+returns c = simp (tests, c .closing .ensures, c .before .before .before .if1 .taken, ← c .before .before .at .ensures)
 
 with-ones-requires : tie.Need-with-ones-requires
 with-ones-requires c κs = tt
@@ -45,7 +45,7 @@ pub zero-bit-spec : {M : Type 1} → statement M
 zero-bit-spec =
     tie.close
     (tie.spec
-    past-flag-requires
+    at-requires
     closing-requires
     returns
     with-ones-requires

@@ -12,14 +12,14 @@ enum-known-u c = search needs
 wide-requires : tie.Need-wide-requires
 wide-requires c κs = tt
 
+enum-told-2 : tie.Need-enum-told-2
+enum-told-2 c = search needs
+
+enum-told-3 : tie.Need-enum-told-3
+enum-told-3 c = search needs
+
 enum-known-u-2 : tie.Need-enum-known-u-2
 enum-known-u-2 c = search needs
-
-enum-known-u-3 : tie.Need-enum-known-u-3
-enum-known-u-3 c = search needs
-
-enum-known-u-4 : tie.Need-enum-known-u-4
-enum-known-u-4 c = search needs
 
 wide-requires-2 : tie.Need-wide-requires-2
 wide-requires-2 c κs = tt
@@ -40,7 +40,7 @@ returns-4 : tie.Need-returns-4
 returns-4 c = search needs
 
 returns-5 : tie.Need-returns-5
-returns-5 c = simp (c .wide2 .ensures .0, c .before .before .u4 .given .1)
+returns-5 c = simp (c .wide2 .ensures .0, c .before .before .u2 .given .1)
 
 pub ticks-to-flag-spec : {M : Type 1} → statement M
 ticks-to-flag-spec =
@@ -49,9 +49,9 @@ ticks-to-flag-spec =
     enum-told
     enum-known-u
     wide-requires
+    enum-told-2
+    enum-told-3
     enum-known-u-2
-    enum-known-u-3
-    enum-known-u-4
     wide-requires-2
     add-result
     returns

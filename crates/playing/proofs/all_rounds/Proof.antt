@@ -5,7 +5,7 @@ use lib.ListN.{length}
 use denote.Ref.{now}
 use Rattle.items.specs.Sheet.{itemsLeft}
 use Rattle.items.specs.Laws.{dealt-less}
-use Rattle.playing.specs.declared.Turn.{Turn}
+use Rattle.chip.specs.declared.Outcome.{Outcome}
 use Rattle.playing.specs.Playing.{Play, playing, behind, round, allRounds}
 use Rattle.playing.proofs.Laws.{rounds-step, rounds-none}
 use Rattle.playing.proofs.all_rounds.Statement.{statement}
@@ -51,7 +51,7 @@ loop-again c =
     let input = now (a .input) in
     let here = playing (l .s) (l .t .chip) (l .desk) (l .out) in
     let n = next .next .ensures in
-    let played = ap (λ (t : Turn). allRounds input (behind input here t)) (turned .turned .ensures) in (
+    let played = ap (λ (t : Outcome). allRounds input (behind input here t)) (turned .turned .ensures) in (
       next .next .kept .1 .1 .0 ∙ l .inv .0,
       next .next .kept .1 .1 .1 .0 ∙ l .inv .1,
       (λ i. allRounds input (playing (n .0 i) (turned .turned .result .chip) (n .1 .0 i) (n .1 .1 i)))

@@ -1,10 +1,9 @@
 -- `playing::play` meets its contract: it plays all rounds from the start. Assumes nothing.
 use mathlib.Core.Path.{ap, _∙_}
 use denote.Ref.{now}
-use Rattle.chip.specs.Chip.{hardReset}
+use Rattle.chip.specs.declared.Outcome.{Outcome}
 use Rattle.items.specs.declared.Sheet.{Sheet}
-use Rattle.playing.specs.declared.Turn.{Turn}
-use Rattle.playing.specs.Playing.{Play, turn, playing, allRounds, played}
+use Rattle.playing.specs.Playing.{Play, atFirst, playing, allRounds, played}
 use Rattle.playing.proofs.play.Statement.{statement}
 use Rattle.playing.proofs.play.Tie as tie
 
@@ -30,8 +29,8 @@ returns c =
     let begun = all .before .before .before in
     let a = begun .before .before .before .before .before .args in
     let s = begun .start2 in
-    let from : Turn → Sheet → Play = λ t s. allRounds (now (a .input)) (playing s (t .chip) (now (a .desk)) (now (a .out))) in
-    let e = ap (λ (t : Turn). from t (s .result)) (begun .before .start .ensures) ∙ ap (from (turn 0 0 hardReset)) (s .ensures) in
+    let from : Outcome → Sheet → Play = λ t s. allRounds (now (a .input)) (playing s (t .chip) (now (a .desk)) (now (a .out))) in
+    let e = ap (λ (t : Outcome). from t (s .result)) (begun .before .start .ensures) ∙ ap (from atFirst) (s .ensures) in
     let r = all .all-rounds .ensures in (
       r .0 ∙ ap (λ (p : Play). p .sheet) e,
       (r .1 .0 ∙ ap (λ (p : Play). p .desk) e, r .1 .1 ∙ ap (λ (p : Play). p .out) e),

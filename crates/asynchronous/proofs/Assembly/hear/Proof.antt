@@ -5,15 +5,12 @@ use borrow.Author.Needs.{needs}
 use Rattle.asynchronous.proofs.Assembly.hear.Statement.{statement}
 use Rattle.asynchronous.proofs.Assembly.hear.Tie as tie
 
-released-requires : tie.Need-released-requires
-released-requires c κs = tt
-
 in-silence-requires : tie.Need-in-silence-requires
 in-silence-requires c κs = tt
 
 returns : tie.Need-returns
 unfolding hearCharacter
-returns c = simp (tests, c .before .before .if2 .taken, c .before .before .before .if1 .taken, ← c .before .released .ensures) (c .in-silence .ensures)
+returns c = simp (tests, c .before .if2 .taken, c .before .before .if1 .taken) (c .in-silence .ensures)
 
 in-silence-requires-2 : tie.Need-in-silence-requires-2
 in-silence-requires-2 c κs = tt
@@ -63,7 +60,6 @@ pub hear-spec : {M : Type 1} → statement M
 hear-spec =
     tie.close
     (tie.spec
-    released-requires
     in-silence-requires
     returns
     in-silence-requires-2

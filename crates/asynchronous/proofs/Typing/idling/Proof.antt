@@ -3,14 +3,17 @@ use Rattle.asynchronous.proofs.Branch.{tests}
 use Rattle.asynchronous.proofs.Typing.idling.Statement.{statement}
 use Rattle.asynchronous.proofs.Typing.idling.Tie as tie
 
-start-character-requires : tie.Need-start-character-requires
-start-character-requires c κs = tt
+character-requires : tie.Need-character-requires
+character-requires c κs = tt
+
+emptied-requires : tie.Need-emptied-requires
+emptied-requires c κs = tt
 
 returns : tie.Need-returns
-returns c = simp (tests, c .before .if1 .taken) (c .start-character .ensures)
+returns c = simp (tests, c .emptied .ensures, c .before .before .if1 .taken, ← c .before .character .ensures)
 
 returns-2 : tie.Need-returns-2
 returns-2 c = simp (tests, c .if1 .left)
 
 pub idling-spec : {M : Type 1} → statement M
-idling-spec = tie.close (tie.spec start-character-requires returns returns-2)
+idling-spec = tie.close (tie.spec character-requires emptied-requires returns returns-2)

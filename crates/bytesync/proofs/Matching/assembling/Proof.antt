@@ -8,38 +8,34 @@ use Rattle.bytesync.proofs.Matching.assembling.Tie as tie
 shift-in-requires : tie.Need-shift-in-requires
 shift-in-requires c κs = tt
 
-add-of : tie.Need-add-of
-add-of c = search needs
-
-of-requires : tie.Need-of-requires
-of-requires c κs = tt
+add-t9 : tie.Need-add-t9
+add-t9 c = search needs
 
 unmatched-requires : tie.Need-unmatched-requires
 unmatched-requires c κs = tt
 
 returns : tie.Need-returns
 unfolding assembling
-returns c = simp (tests, c .before .before .before .if1 .taken, ← c .before .of .ensures, ← c .before .before .before .before .before .before .shift-in .ensures) (c .unmatched .ensures)
+returns c = simp (tests, c .before .before .if1 .taken, ← c .before .before .before .before .before .shift-in .ensures) (c .unmatched .ensures)
 
-last-eight-requires : tie.Need-last-eight-requires
-last-eight-requires c κs = tt
+cast-arrived : tie.Need-cast-arrived
+cast-arrived c = search needs
 
 arrived-requires : tie.Need-arrived-requires
 arrived-requires c κs = tt
 
 returns-2 : tie.Need-returns-2
 unfolding assembling
-returns-2 c = simp (tests, c .before .before .if1 .left, ← c .before .last-eight .ensures, ← c .before .before .before .before .before .shift-in .ensures) (c .arrived .ensures)
+returns-2 c = simp (tests, c .before .if1 .left, ← c .before .before .before .before .shift-in .ensures) (c .arrived .ensures)
 
 pub assembling-spec : {M : Type 1} → statement M
 assembling-spec =
     tie.close
     (tie.spec
     shift-in-requires
-    add-of
-    of-requires
+    add-t9
     unmatched-requires
     returns
-    last-eight-requires
+    cast-arrived
     arrived-requires
     returns-2)

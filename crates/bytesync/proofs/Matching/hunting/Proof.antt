@@ -26,15 +26,12 @@ returns : tie.Need-returns
 unfolding hunting
 returns c = simp (tests, c .before .before .before .if1 .taken, ← c .before .at .ensures, ← c .before .before .none .ensures, ← c .before .before .before .before .seen .ensures, ← c .before .before .before .before .before .before .counted .ensures, ← c .before .before .before .before .before .before .before .shift-in .ensures) (c .unmatched .ensures)
 
-of-requires : tie.Need-of-requires
-of-requires c κs = tt
-
 unmatched-requires-2 : tie.Need-unmatched-requires-2
 unmatched-requires-2 c κs = tt
 
 returns-2 : tie.Need-returns-2
 unfolding hunting
-returns-2 c = simp (tests, c .before .before .before .if1 .left, ← c .before .of .ensures, ← c .before .before .before .before .seen .ensures, ← c .before .before .before .before .before .before .counted .ensures, ← c .before .before .before .before .before .before .before .shift-in .ensures) (c .unmatched2 .ensures)
+returns-2 c = simp (tests, c .before .before .if1 .left, ← c .before .before .before .seen .ensures, ← c .before .before .before .before .before .counted .ensures, ← c .before .before .before .before .before .before .shift-in .ensures) (c .unmatched2 .ensures)
 
 pub hunting-spec : {M : Type 1} → statement M
 hunting-spec =
@@ -47,6 +44,5 @@ hunting-spec =
     at-requires
     unmatched-requires
     returns
-    of-requires
     unmatched-requires-2
     returns-2)

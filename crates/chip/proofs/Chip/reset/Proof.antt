@@ -1,16 +1,12 @@
--- `chip::Chip::reset` meets its contract: each return by the facts on its way. Assumes nothing.
-use Rattle.chip.proofs.Branch.{tests}
+-- `chip::Chip::reset` meets its contract: both channels are reset. Assumes nothing.
 use Rattle.chip.proofs.Chip.reset.Statement.{statement}
 use Rattle.chip.proofs.Chip.reset.Tie as tie
 
 reset-requires : tie.Need-reset-requires
 reset-requires c κs = tt
 
-reset-requires-2 : tie.Need-reset-requires-2
-reset-requires-2 c κs = tt
-
 returns : tie.Need-returns
-returns c = simp (tests, c .reset2 .ensures, ← c .before .reset .ensures)
+returns c = rw (c .reset .ensures)
 
 pub reset-spec : {M : Type 1} → statement M
-reset-spec = tie.close (tie.spec reset-requires reset-requires-2 returns)
+reset-spec = tie.close (tie.spec reset-requires returns)
