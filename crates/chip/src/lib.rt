@@ -20,7 +20,7 @@ use vector::Acked;
 ghost use mathlib.Core.Path.{_≡_};
 ghost use Rattle.common.specs.declared.Refusal.the-variants.{Channel as NoChannel};
 ghost use Rattle.chip.specs.Interrupts.{inService, acknowledge, reti};
-ghost use Rattle.chip.specs.Chip.{inA, inB, refused, hardReset, controlWriteA, controlWrite, controlReadCall, dataWriteCall};
+ghost use Rattle.chip.specs.Chip.{inA, inB, refused, hardReset, controlWrite, controlReadCall, dataWriteCall};
 ghost use Rattle.chip.specs.Chip.{dataReadCall, transmitCall, receiveCall, linesCall};
 
 pub struct Chip {
@@ -88,22 +88,15 @@ impl Chip {
         }
     }
 
-    // A's control write: command 7 first, which ends a source in service, of either channel.
-    fn write_a(mut self, v: u8) -> Outcome
-        ensures { λ r. ⌜ r ≡ controlWriteA self v ⌝ }
-    {
-        let s = service_under(self.a, self.b, v);
-        self.b = self.b.serving(s.b);
-        self.in_a(control_write_a(self.a, s.a, v))
-    }
-
-    // Control write.
-    pub fn control_write(self, ch: u8, v: u8) -> Outcome
+    // Control write; A's command 7 first, which ends a source in service, of either channel.
+    pub fn control_write(mut self, ch: u8, v: u8) -> Outcome
         ensures { λ r. ⌜ r ≡ controlWrite self ch v ⌝ }
     {
         match ch {
             0 => {
-                return self.write_a(v);
+                let s = service_under(self.a, self.b, v);
+                self.b = self.b.serving(s.b);
+                return self.in_a(control_write_a(self.a, s.a, v));
             }
             1 => {
                 return self.in_b(control_write_b(self.b, v));

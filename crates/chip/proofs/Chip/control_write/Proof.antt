@@ -1,38 +1,52 @@
 -- `chip::Chip::control_write` meets its contract: each return by the facts on its way. Assumes nothing.
 use Rattle.chip.proofs.Branch.{tests}
 use Rattle.chip.specs.Chip.{controlWrite}
+use Rattle.chip.specs.Chip.{controlWriteA}
+use borrow.Author.Needs.{needs}
 use Rattle.chip.proofs.Chip.control_write.Statement.{statement}
 use Rattle.chip.proofs.Chip.control_write.Tie as tie
 
-write-a-requires : tie.Need-write-a-requires
-write-a-requires c κs = tt
+service-under-requires : tie.Need-service-under-requires
+service-under-requires c κs = search needs
+
+serving-requires : tie.Need-serving-requires
+serving-requires c κs = search needs
+
+control-write-a-requires : tie.Need-control-write-a-requires
+control-write-a-requires c κs = search needs
+
+in-a-requires : tie.Need-in-a-requires
+in-a-requires c κs = search needs
 
 returns : tie.Need-returns
-unfolding controlWrite
-returns c = simp (tests, c .before .match .keys1) (c .write-a .ensures)
+unfolding controlWrite controlWriteA
+returns c = simp (tests, c .before .before .before .before .match .keys1, ← c .before .control-write-a .ensures, ← c .before .before .serving .ensures, ← c .before .before .before .service-under .ensures) (c .in-a .ensures)
 
 control-write-b-requires : tie.Need-control-write-b-requires
-control-write-b-requires c κs = tt
+control-write-b-requires c κs = search needs
 
 in-b-requires : tie.Need-in-b-requires
-in-b-requires c κs = tt
+in-b-requires c κs = search needs
 
 returns-2 : tie.Need-returns-2
-unfolding controlWrite
+unfolding controlWrite controlWriteA
 returns-2 c = simp (tests, c .before .before .match .keys2, ← c .before .control-write-b .ensures) (c .in-b .ensures)
 
 no-channel-requires : tie.Need-no-channel-requires
-no-channel-requires c κs = tt
+no-channel-requires c κs = search needs
 
 returns-3 : tie.Need-returns-3
-unfolding controlWrite
+unfolding controlWrite controlWriteA
 returns-3 c = simp (tests, c .before .match .rest .1, c .before .match .rest .0 .1) (c .no-channel .ensures)
 
 pub control-write-spec : {M : Type 1} → statement M
 control-write-spec =
     tie.close
     (tie.spec
-    write-a-requires
+    service-under-requires
+    serving-requires
+    control-write-a-requires
+    in-a-requires
     returns
     control-write-b-requires
     in-b-requires
