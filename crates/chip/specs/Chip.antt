@@ -38,6 +38,9 @@ inA c r = outcome (r .answer) (chip (r .channel) (c .b))
 abbrev pub inB : Chip → Answered → Outcome
 inB c r = outcome (r .answer) (chip (c .a) (r .channel))
 
+abbrev pub put : Chip → ℕ → Answered → Outcome
+put c ch r = if eqb ch 0 then inA c r else inB c r
+
 -- 1: "channel above 1"; each call by its channel
 abbrev pub byChannel : Chip → ℕ → Outcome → Outcome → Outcome
 byChannel c ch a b =

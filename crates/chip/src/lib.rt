@@ -20,7 +20,7 @@ use vector::Acked;
 ghost use mathlib.Core.Path.{_≡_};
 ghost use Rattle.common.specs.declared.Refusal.the-variants.{Channel as NoChannel};
 ghost use Rattle.chip.specs.Interrupts.{inService, acknowledge, reti};
-ghost use Rattle.chip.specs.Chip.{inA, inB, refused, hardReset, controlWrite, controlReadCall, dataWriteCall};
+ghost use Rattle.chip.specs.Chip.{put, refused, hardReset, controlWrite, controlReadCall, dataWriteCall};
 ghost use Rattle.chip.specs.Chip.{dataReadCall, transmitCall, receiveCall, linesCall};
 
 pub struct Chip {
@@ -53,25 +53,17 @@ impl Chip {
         Chip { a: c, b: c }
     }
 
-    // A's answer, with B as it was; and B's, with A.
-    fn in_a(mut self, x: Answered) -> Outcome
-        ensures { λ r. ⌜ r ≡ inA self x ⌝ }
+    // A's answer, with B as it was, or B's, with A.
+    fn put(mut self, ch: u8, x: Answered) -> Outcome
+        ensures { λ r. ⌜ r ≡ put self ch x ⌝ }
     {
         let w = x.answer;
-        let a = x.channel;
-        self.a = a;
-        Outcome {
-            answer: w,
-            chip: self,
+        let c = x.channel;
+        if ch == 0 {
+            self.a = c;
+        } else {
+            self.b = c;
         }
-    }
-
-    fn in_b(mut self, x: Answered) -> Outcome
-        ensures { λ r. ⌜ r ≡ inB self x ⌝ }
-    {
-        let w = x.answer;
-        let b = x.channel;
-        self.b = b;
         Outcome {
             answer: w,
             chip: self,
@@ -96,10 +88,10 @@ impl Chip {
             0 => {
                 let s = service_under(self.a, self.b, v);
                 self.b = self.b.serving(s.b);
-                return self.in_a(control_write_a(self.a, s.a, v));
+                return self.put(ch, control_write_a(self.a, s.a, v));
             }
             1 => {
-                return self.in_b(control_write_b(self.b, v));
+                return self.put(ch, control_write_b(self.b, v));
             }
             _ => {
                 return self.no_channel();
@@ -113,10 +105,10 @@ impl Chip {
     {
         match ch {
             0 => {
-                return self.in_a(control_read_a(self.a, self.b));
+                return self.put(ch, control_read_a(self.a, self.b));
             }
             1 => {
-                return self.in_b(control_read_b(self.a, self.b));
+                return self.put(ch, control_read_b(self.a, self.b));
             }
             _ => {
                 return self.no_channel();
@@ -155,10 +147,10 @@ impl Chip {
     {
         match ch {
             0 => {
-                return self.in_a(self.a.data_read());
+                return self.put(ch, self.a.data_read());
             }
             1 => {
-                return self.in_b(self.b.data_read());
+                return self.put(ch, self.b.data_read());
             }
             _ => {
                 return self.no_channel();
@@ -172,10 +164,10 @@ impl Chip {
     {
         match ch {
             0 => {
-                return self.in_a(transmit_a(self.a));
+                return self.put(ch, transmit_a(self.a));
             }
             1 => {
-                return self.in_b(transmit_b(self.b));
+                return self.put(ch, transmit_b(self.b));
             }
             _ => {
                 return self.no_channel();
@@ -189,10 +181,10 @@ impl Chip {
     {
         match ch {
             0 => {
-                return self.in_a(receive_a(self.a, bit));
+                return self.put(ch, receive_a(self.a, bit));
             }
             1 => {
-                return self.in_b(receive_b(self.b, bit));
+                return self.put(ch, receive_b(self.b, bit));
             }
             _ => {
                 return self.no_channel();
@@ -206,10 +198,10 @@ impl Chip {
     {
         match ch {
             0 => {
-                return self.in_a(self.a.set_lines(dcd, cts));
+                return self.put(ch, self.a.set_lines(dcd, cts));
             }
             1 => {
-                return self.in_b(self.b.set_lines(dcd, cts));
+                return self.put(ch, self.b.set_lines(dcd, cts));
             }
             _ => {
                 return self.no_channel();

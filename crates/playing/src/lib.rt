@@ -44,7 +44,13 @@ fn next(s: Sheet, input: &[u8], desk: &mut [u8], out: &mut [u8], w: Answer) -> S
 }
 
 // All items that are left, from the chip behind this answer on, are played one after another, and the cases told.
-pub fn all_rounds(mut t: Outcome, mut s: Sheet, input: &[u8], desk: &mut [u8], out: &mut [u8]) -> Sheet
+pub fn all_rounds(
+    mut t: Outcome,
+    mut s: Sheet,
+    input: &[u8],
+    desk: &mut [u8],
+    out: &mut [u8],
+) -> Sheet
     ensures { λ r. ⌜ r ≡ allRounds (now (input .entry)) (playing s (t .chip) (now (desk .entry)) (now (out .entry))) .sheet ⌝ }
     ensures { λ r. ⌜ now (desk .exit) ≡ allRounds (now (input .entry)) (playing s (t .chip) (now (desk .entry)) (now (out .entry))) .desk ⌝ }
     ensures { λ r. ⌜ now (out .exit) ≡ allRounds (now (input .entry)) (playing s (t .chip) (now (desk .entry)) (now (out .entry))) .out ⌝ }

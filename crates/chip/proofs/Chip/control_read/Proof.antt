@@ -10,22 +10,22 @@ use Rattle.chip.proofs.Chip.control_read.Tie as tie
 control-read-a-requires : tie.Need-control-read-a-requires
 control-read-a-requires c κs = tt
 
-in-a-requires : tie.Need-in-a-requires
-in-a-requires c κs = tt
+put-requires : tie.Need-put-requires
+put-requires c κs = tt
 
 returns : tie.Need-returns
 unfolding controlReadCall anyPending rr2 pendingOf
-returns c = simp (tests, c .in-a .ensures, c .before .before .match .keys1, c .before .control-read-a .ensures)
+returns c = simp (tests, c .put .ensures, c .before .before .match .keys1, c .before .control-read-a .ensures)
 
 control-read-b-requires : tie.Need-control-read-b-requires
 control-read-b-requires c κs = tt
 
-in-b-requires : tie.Need-in-b-requires
-in-b-requires c κs = tt
+put-requires-2 : tie.Need-put-requires-2
+put-requires-2 c κs = tt
 
 returns-2 : tie.Need-returns-2
 unfolding controlReadCall anyPending rr2 pendingOf
-returns-2 c = simp (tests, c .in-b .ensures, c .before .before .match .keys2, c .before .control-read-b .ensures)
+returns-2 c = simp (tests, c .put2 .ensures, c .before .before .match .keys2, c .before .control-read-b .ensures)
 
 no-channel-requires : tie.Need-no-channel-requires
 no-channel-requires c κs = tt
@@ -39,10 +39,10 @@ control-read-spec =
     tie.close
     (tie.spec
     control-read-a-requires
-    in-a-requires
+    put-requires
     returns
     control-read-b-requires
-    in-b-requires
+    put-requires-2
     returns-2
     no-channel-requires
     returns-3)

@@ -2,38 +2,37 @@
 use Rattle.chip.proofs.Branch.{tests}
 use Rattle.chip.specs.Chip.{controlWrite}
 use Rattle.chip.specs.Chip.{controlWriteA}
-use borrow.Author.Needs.{needs}
 use Rattle.chip.proofs.Chip.control_write.Statement.{statement}
 use Rattle.chip.proofs.Chip.control_write.Tie as tie
 
 service-under-requires : tie.Need-service-under-requires
-service-under-requires c κs = search needs
+service-under-requires c κs = tt
 
 serving-requires : tie.Need-serving-requires
-serving-requires c κs = search needs
+serving-requires c κs = tt
 
 control-write-a-requires : tie.Need-control-write-a-requires
-control-write-a-requires c κs = search needs
+control-write-a-requires c κs = tt
 
-in-a-requires : tie.Need-in-a-requires
-in-a-requires c κs = search needs
+put-requires : tie.Need-put-requires
+put-requires c κs = tt
 
 returns : tie.Need-returns
 unfolding controlWrite controlWriteA
-returns c = simp (tests, c .before .before .before .before .match .keys1, ← c .before .control-write-a .ensures, ← c .before .before .serving .ensures, ← c .before .before .before .service-under .ensures) (c .in-a .ensures)
+returns c = simp (tests, c .put .ensures, c .before .before .before .before .match .keys1, ← c .before .control-write-a .ensures, ← c .before .before .serving .ensures, ← c .before .before .before .service-under .ensures)
 
 control-write-b-requires : tie.Need-control-write-b-requires
-control-write-b-requires c κs = search needs
+control-write-b-requires c κs = tt
 
-in-b-requires : tie.Need-in-b-requires
-in-b-requires c κs = search needs
+put-requires-2 : tie.Need-put-requires-2
+put-requires-2 c κs = tt
 
 returns-2 : tie.Need-returns-2
 unfolding controlWrite controlWriteA
-returns-2 c = simp (tests, c .before .before .match .keys2, ← c .before .control-write-b .ensures) (c .in-b .ensures)
+returns-2 c = simp (tests, c .put2 .ensures, c .before .before .match .keys2, ← c .before .control-write-b .ensures)
 
 no-channel-requires : tie.Need-no-channel-requires
-no-channel-requires c κs = search needs
+no-channel-requires c κs = tt
 
 returns-3 : tie.Need-returns-3
 unfolding controlWrite controlWriteA
@@ -46,10 +45,10 @@ control-write-spec =
     service-under-requires
     serving-requires
     control-write-a-requires
-    in-a-requires
+    put-requires
     returns
     control-write-b-requires
-    in-b-requires
+    put-requires-2
     returns-2
     no-channel-requires
     returns-3)

@@ -7,22 +7,22 @@ use Rattle.chip.proofs.Chip.receive.Tie as tie
 receive-a-requires : tie.Need-receive-a-requires
 receive-a-requires c κs = tt
 
-in-a-requires : tie.Need-in-a-requires
-in-a-requires c κs = tt
+put-requires : tie.Need-put-requires
+put-requires c κs = tt
 
 returns : tie.Need-returns
 unfolding receiveCall
-returns c = simp (tests, c .before .before .match .keys1, ← c .before .receive-a .ensures) (c .in-a .ensures)
+returns c = simp (tests, c .put .ensures, c .before .before .match .keys1, ← c .before .receive-a .ensures)
 
 receive-b-requires : tie.Need-receive-b-requires
 receive-b-requires c κs = tt
 
-in-b-requires : tie.Need-in-b-requires
-in-b-requires c κs = tt
+put-requires-2 : tie.Need-put-requires-2
+put-requires-2 c κs = tt
 
 returns-2 : tie.Need-returns-2
 unfolding receiveCall
-returns-2 c = simp (tests, c .before .before .match .keys2, ← c .before .receive-b .ensures) (c .in-b .ensures)
+returns-2 c = simp (tests, c .put2 .ensures, c .before .before .match .keys2, ← c .before .receive-b .ensures)
 
 no-channel-requires : tie.Need-no-channel-requires
 no-channel-requires c κs = tt
@@ -36,10 +36,10 @@ receive-spec =
     tie.close
     (tie.spec
     receive-a-requires
-    in-a-requires
+    put-requires
     returns
     receive-b-requires
-    in-b-requires
+    put-requires-2
     returns-2
     no-channel-requires
     returns-3)

@@ -7,22 +7,22 @@ use Rattle.chip.proofs.Chip.transmit.Tie as tie
 transmit-a-requires : tie.Need-transmit-a-requires
 transmit-a-requires c κs = tt
 
-in-a-requires : tie.Need-in-a-requires
-in-a-requires c κs = tt
+put-requires : tie.Need-put-requires
+put-requires c κs = tt
 
 returns : tie.Need-returns
 unfolding transmitCall
-returns c = simp (tests, c .before .before .match .keys1, ← c .before .transmit-a .ensures) (c .in-a .ensures)
+returns c = simp (tests, c .put .ensures, c .before .before .match .keys1, ← c .before .transmit-a .ensures)
 
 transmit-b-requires : tie.Need-transmit-b-requires
 transmit-b-requires c κs = tt
 
-in-b-requires : tie.Need-in-b-requires
-in-b-requires c κs = tt
+put-requires-2 : tie.Need-put-requires-2
+put-requires-2 c κs = tt
 
 returns-2 : tie.Need-returns-2
 unfolding transmitCall
-returns-2 c = simp (tests, c .before .before .match .keys2, ← c .before .transmit-b .ensures) (c .in-b .ensures)
+returns-2 c = simp (tests, c .put2 .ensures, c .before .before .match .keys2, ← c .before .transmit-b .ensures)
 
 no-channel-requires : tie.Need-no-channel-requires
 no-channel-requires c κs = tt
@@ -36,10 +36,10 @@ transmit-spec =
     tie.close
     (tie.spec
     transmit-a-requires
-    in-a-requires
+    put-requires
     returns
     transmit-b-requires
-    in-b-requires
+    put-requires-2
     returns-2
     no-channel-requires
     returns-3)
