@@ -16,12 +16,11 @@ use Rattle.line.specs.Bits.{oneIf}
 use Rattle.line.specs.declared.Insertion.{Insertion}
 use Rattle.shared.specs.declared.Shared.{Shared}
 use Rattle.sdlc.specs.declared.LineUnit.{LineUnit}
-use Rattle.sdlc.specs.declared.LineUnit.the-variants.{Mark, Flag, Byte, Check, Abort}
 use Rattle.sdlc.specs.declared.Framer.{Framer}
 use Rattle.sdlc.specs.declared.Framed.{Framed}
 use Rattle.sdlc.specs.Sending.{insertion, framer, byteOn, tickSdlc}
 use Rattle.sdlc.specs.Within.{byteLeft, byteRest, within, tickWithin}
-use Rattle.sdlc.specs.Laws.Within.{sdlc-within}
+use Rattle.sdlc.specs.Laws.Within.{in-byte, sdlc-within}
 use Rattle.whole.specs.Come.{good, toCome, filledWith}
 use Rattle.whole.specs.Stage.{Stage}
 use Rattle.whole.specs.Start.{frameEnded}
@@ -149,43 +148,26 @@ after-supplied (suc n) s rest x l e f =
 
 unended : (u : LineUnit) (i : Insertion) (k : Shared) → within (framer u i k) ≡ true
     → frameEnded (framer u i k) ≡ false
-unended Mark i k e = void e
-unended (Flag n) i k e = void e
-unended (Byte n v) i k e = refl
-unended (Check n v) i k e = void e
-unended (Abort n) i k e = void e
+unended u i k e = in-byte (λ x. frameEnded (framer x i k) ≡ false) u i k e (λ n v. refl)
 
 byte-unit : (u : LineUnit) (i : Insertion) (k : Shared) → within (framer u i k) ≡ true
     → framer u i k ≡ carrying k (bitsOf (framer u i k))
-byte-unit Mark i k e = void e
-byte-unit (Flag n) i k e = void e
-byte-unit (Byte n v) i k e = refl
-byte-unit (Check n v) i k e = void e
-byte-unit (Abort n) i k e = void e
+byte-unit u i k e =
+    in-byte (λ x. framer x i k ≡ carrying k (bitsOf (framer x i k))) u i k e (λ n v. refl)
 
 byte-some : (u : LineUnit) (i : Insertion) (k : Shared) → within (framer u i k) ≡ true
     → 1 ≤ byteLeft u
-byte-some Mark i k e = void e
-byte-some (Flag n) i k e = void e
-byte-some (Byte zero v) i k e = void e
-byte-some (Byte (suc n) v) i k e = omega arith
-byte-some (Check n v) i k e = void e
-byte-some (Abort n) i k e = void e
+byte-some u i k e = in-byte (λ x. 1 ≤ byteLeft x) u i k e (λ n v. omega arith)
 
 takes-kept : (s : Framer) → within s ≡ true → takesByte (tickWithin s .framer) ≡ takesByte s
 unfolding tickWithin
 takes-kept s w =
-    if-elim (λ (t : Framed). takesByte (t .framer) ≡ takesByte s) (s .insertion .owed) refl
-    (byte (s .unit) w)
-  where
-    byte : (u : LineUnit) → within (framer u (s .insertion) (s .shared)) ≡ true
-        → takesByte (byteOn (byteLeft u) (byteRest u) (s .insertion .run) (s .shared) .framer)
-        ≡ takesByte (framer u (s .insertion) (s .shared))
-    byte Mark e = void e
-    byte (Flag n) e = void e
-    byte (Byte n v) e = refl
-    byte (Check n v) e = void e
-    byte (Abort n) e = void e
+    let i = s .insertion in
+    let k = s .shared in
+    if-elim (λ (t : Framed). takesByte (t .framer) ≡ takesByte s) (i .owed) refl
+    (in-byte
+    (λ x. takesByte (byteOn (byteLeft x) (byteRest x) (i .run) k .framer) ≡ takesByte (framer x i k))
+    (s .unit) i k w (λ n v. refl))
 
 some-left : (n : ℕ) → 0 < n → not (eqb n 0) ≡ true
 some-left zero h = absurd (omega arith)

@@ -1,13 +1,15 @@
 -- A tick for which a test of Within holds is the form of Within. Assumes nothing.
 use mathlib.Core.Path.{_≡_, refl, ap}
 use mathlib.Core.Bool.{Bool, true, false, not}
-use Prim.Native.Nat.{ℕ, _+_}
+use Prim.Native.Nat.{ℕ, zero, suc, _+_}
 use native.Mathlib.Omega.{arith}
-use lib.Dec.{eqb, ltb}
+use lib.Dec.{ltb, eqb·suc-zero}
 use borrow.Author.Tests.{ltb-true, lt-ltb, ne-eqb}
 use Rattle.common.specs.Choice.{if_then_else_}
 use Rattle.common.specs.Tools.{if-elim, void, both-left, both-right, not-true}
 use Rattle.line.specs.Check.{sdlc, checkStep}
+use Rattle.line.specs.declared.Insertion.{Insertion}
+use Rattle.shared.specs.declared.Shared.{Shared}
 use Rattle.sdlc.specs.declared.LineUnit.{LineUnit}
 use Rattle.sdlc.specs.declared.LineUnit.the-variants.{Mark, Flag, Byte, Check, Abort}
 use Rattle.sdlc.specs.declared.Framing.{Framing}
@@ -23,20 +25,25 @@ use Rattle.sdlc.specs.Within.{fewerThan, hearsOn, movedOn}
 
 -- Sending: while a byte has bits left
 
+-- the unit is a byte with a bit left, and no other
+pub in-byte : (P : LineUnit → Type 0) (u : LineUnit) (i : Insertion) (k : Shared)
+    → within (framer u i k) ≡ true → ((n v : ℕ) → P (Byte (suc n) v)) → P u
+in-byte P Mark i k e f = void e
+in-byte P (Flag n) i k e f = void e
+in-byte P (Byte zero v) i k e f = void e
+in-byte P (Byte (suc n) v) i k e f = f n v
+in-byte P (Check n v) i k e f = void e
+in-byte P (Abort n) i k e f = void e
+
 pub sdlc-within : (g : Framing) (s : Framer) → within s ≡ true → tickSdlc g s ≡ tickWithin s
 unfolding tickSdlc tickWithin going
 sdlc-within g s w =
-    let owed = sentBit false (s .unit) (paid (s .insertion)) (s .shared) in
-    ap (λ (t : Framed). if s .insertion .owed then owed else t) (byte (s .unit) w)
-  where
-    byte : (u : LineUnit) → within (framer u (s .insertion) (s .shared)) ≡ true
-        → going g u (s .insertion .run) (s .shared)
-        ≡ byteOn (byteLeft u) (byteRest u) (s .insertion .run) (s .shared)
-    byte Mark e = void e
-    byte (Flag n) e = void e
-    byte (Byte n v) e = rw (not-true (eqb n 0) e)
-    byte (Check n v) e = void e
-    byte (Abort n) e = void e
+    let i = s .insertion in
+    let k = s .shared in
+    let owed = sentBit false (s .unit) (paid i) k in
+    ap (λ (t : Framed). if i .owed then owed else t)
+    (in-byte (λ u. going g u (i .run) k ≡ byteOn (byteLeft u) (byteRest u) (i .run) k)
+    (s .unit) i k w (λ n v. rw (eqb·suc-zero n)))
 
 -- it loads nothing and leaves the latch
 pub within-loaded : (s : Framer) → tickWithin s .loaded ≡ false
