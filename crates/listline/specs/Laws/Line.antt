@@ -96,6 +96,11 @@ flagged-behind TwoFlags c b =
 
 -- The notes that follow, and all of them
 
+-- the next note is sent behind the flag that goes before it
+sent-next : (between : Between) (c : Chip) (note : List ℕ)
+    → sentNext between c note ≡ sentBy (flagged between c) note
+sent-next between c note = refl
+
 next-lines : (between : Between) (c : Chip) (notes : List (List ℕ)) → AllFit notes → Behind c
     → nextLines between c notes ≡ nextFrames between notes
 unfolding nextLines nextFrames
@@ -105,7 +110,8 @@ next-lines between c ((v ∷ vs) ∷ notes) (fits-more f fit) b =
     let d = flagged between c in
     let g = flagged-behind between c b in
     ap₂ _++_ (ap₂ _++_ (g .0) (note-line d v vs (g .1)))
-    (next-lines between (sentBy d (v ∷ vs)) notes fit (sent-behind d v vs))
+    (ap (λ (e : Chip). nextLines between e notes) (sent-next between c (v ∷ vs))
+    ∙ next-lines between (sentBy d (v ∷ vs)) notes fit (sent-behind d v vs))
 
 -- a chip that cannot send is set up, and stands behind a mark
 anew : (c : Chip) → canSend (sendingA (lookA c)) ≡ false → prepared c .a .sender .unit ≡ Mark
