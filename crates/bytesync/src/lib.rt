@@ -68,9 +68,9 @@ pub struct Block {
 // hunt: no sync has come yet; the last bits that came, since hunt began or since the last character, the newest highest; count of them, in
 // hunt at most sixteen.
 pub struct Reception {
-    pub bits: u16,
-    pub hunt: bool,
     pub count: u8,
+    pub hunt: bool,
+    pub bits: u16,
     pub block: Block,
 }
 

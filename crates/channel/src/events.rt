@@ -130,12 +130,11 @@ impl Channel {
             dcd: dcd == 1,
             cts: cts == 1,
         };
-        let was = self.live();
+        let was = self;
         self.lines = l;
-        self.status = self.status.noticed(was, self.live());
         Answered {
             answer: Answer::Done,
-            channel: self,
+            channel: self.settled(was),
         }
     }
 }

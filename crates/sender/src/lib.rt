@@ -208,13 +208,12 @@ impl Sender {
         }
     }
 
-    // Another buffer, latch or check.
+    // Another buffer, latch or check; the other parts one by one, which takes a data write less stack than the sender as a whole.
     fn with_shared(self, k: Shared) -> Sender
         ensures { λ r. ⌜ r ≡ withShared self k ⌝ }
     {
-        let mut s = self;
-        s.shared = k;
-        s
+        let block = self.block;
+        self.with_block(block, k)
     }
 
     // A data write.

@@ -46,10 +46,7 @@ impl Status {
     pub fn noticed(self, was: Live, is: Live) -> Status
         ensures { λ r. ⌜ r ≡ noticed self was is ⌝ }
     {
-        if self.latched {
-            return self;
-        }
-        if was.changed(is) {
+        if !self.latched & was.changed(is) {
             return Status {
                 latched: true,
                 shown: is,
