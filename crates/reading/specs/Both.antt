@@ -33,11 +33,14 @@ serviceUnder a b v = if endsService a v then ended (serviceBoth a b) else servic
 abbrev pub specialBoth : Channel → Channel → Special
 specialBoth a b = record { a = specialWaits a; b = specialWaits b }
 
--- "RR2 that of the highest pending"; "WR2: vector, B only", "D2 status affects vector (B)"
+-- the vector of a source: "WR2: vector, B only", "D2 status affects vector (B)"
+abbrev pub vectorAt : Channel → Channel → ℕ → ℕ
+vectorAt a b level =
+    vectorOf (b .registers .wr2) (statusAffects (b .registers .wr1)) level (specialBoth a b)
+
+-- "RR2 that of the highest pending"
 abbrev pub vectorBoth : Channel → Channel → ℕ
-vectorBoth a b =
-    vectorOf (b .registers .wr2) (statusAffects (b .registers .wr1)) (highest (pendingBoth a b))
-    (specialBoth a b)
+vectorBoth a b = vectorAt a b (highest (pendingBoth a b))
 
 -- "Acknowledge puts the highest source in service and leaves it pending"; it "gives the vector of
 -- the source it takes", which is the highest pending

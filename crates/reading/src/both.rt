@@ -17,7 +17,7 @@ ghost use mathlib.Core.Path.{_≡_};
 ghost use mathlib.Core.Bool.{false};
 ghost use Rattle.interrupts.specs.Interrupts.{anyOf};
 ghost use Rattle.channel.specs.Control.{controlRead};
-ghost use Rattle.reading.specs.Both.{pendingBoth, serviceBoth, serviceUnder, specialBoth, vectorBoth, taking};
+ghost use Rattle.reading.specs.Both.{pendingBoth, serviceBoth, serviceUnder, specialBoth, vectorAt, vectorBoth, taking};
 
 pub fn pending_in_both(a: Channel, b: Channel) -> Six
     ensures { λ r. ⌜ r ≡ pendingBoth a b ⌝ }
@@ -57,16 +57,23 @@ pub fn special_in_both(a: Channel, b: Channel) -> Special
     }
 }
 
-// RR2.
-pub fn rr2(a: Channel, b: Channel) -> u8
-    ensures { λ r. ⌜ r ≡ vectorBoth a b ⌝ }
+// The vector of the source of a level.
+fn vector_at(a: Channel, b: Channel, level: u8) -> u8
+    ensures { λ r. ⌜ r ≡ vectorAt a b level ⌝ }
 {
     vector(
         b.registers.wr2,
         status_affects(b.registers.wr1),
-        pending_in_both(a, b).highest(),
+        level,
         special_in_both(a, b),
     )
+}
+
+// RR2.
+pub fn rr2(a: Channel, b: Channel) -> u8
+    ensures { λ r. ⌜ r ≡ vectorBoth a b ⌝ }
+{
+    vector_at(a, b, pending_in_both(a, b).highest())
 }
 
 // A's control read, which shows whether any source is pending; and B's, which shows RR2.
@@ -89,7 +96,7 @@ pub fn acknowledging(a: Channel, b: Channel) -> Taking
     let p = pending_in_both(a, b);
     let s = service_in_both(a, b);
     Taking {
-        acked: Acked::by(may_take(p, s), rr2(a, b)),
+        acked: Acked::by(may_take(p, s), vector_at(a, b, p.highest())),
         service: acknowledge(p, s),
     }
 }

@@ -2,7 +2,7 @@
 -- handed over. Assumes nothing.
 use mathlib.Core.Path.{_≡_, refl, sym, ap, ap₂, _∙_, subst}
 use mathlib.Core.Bool.{Bool, true, _&&_}
-use mathlib.Core.List.{List, _++_, append-assoc}
+use mathlib.Core.List.{List, _∷_, _++_, append-assoc}
 use Prim.Native.Nat.{ℕ}
 use Rattle.entry.specs.declared.Entry.{Entry}
 use Rattle.queue.specs.declared.Queue.{Queue}
@@ -42,6 +42,27 @@ pub record Conserved (w : Which) (c : Chip) (st : List Event) (r : Reception) (k
       → before es (hearAll (h .matching) r k (momentsOf w c st ++ rest))
       ≡ before (tookOf w c st ++ waiting) (hearAll (h .matching) last check rest)
 
+-- an event before a story: the end is that of the story
+carried : {w : Which} {c : Chip} {x : Event} {st : List Event} {r t : Reception} {k l : ℕ}
+    {h : Heeded} {es ds : List Entry} {p o : Bool}
+    (n : Conserved w (happens c x .chip) st t l h ds p o)
+    → ((rest : List Moment)
+    → before es (hearAll (h .matching) r k (momentsOf w c (x ∷ st) ++ rest))
+    ≡ before (tookOf w c (x ∷ st) ++ n .waiting)
+    (hearAll (h .matching) (n .last) (n .check) rest))
+    → Conserved w c (x ∷ st) r k h es p o
+unfolding after
+carried n whole =
+    record {
+      last = n .last;
+      check = n .check;
+      queue = n .queue;
+      waiting = n .waiting;
+      there = n .there;
+      holds = n .holds;
+      whole = whole;
+    }
+
 pub conserved : (w : Which) {c : Chip} {st : List Event} {p o : Bool} → Fed w c st
     → (r : Reception) (k : ℕ) (q : Queue) (h : Heeded) (es : List Entry) → Hearing h
     → sideOf w c ≡ side r k q h → Holds p o q es → Conserved w c st r k h es p o
@@ -59,21 +80,13 @@ conserved w over r k q h es d e m =
 conserved w (still {c = c} {e = x} {st = st} z s i) r k q h es d e m =
     let n = conserved w i r k q h es d (s ∙ e) m in
     let g = h .matching in
-    record {
-      last = n .last;
-      check = n .check;
-      queue = n .queue;
-      waiting = n .waiting;
-      there = n .there;
-      holds = n .holds;
-      whole = λ rest.
-          ap (λ (y : ToReceiver). before es (hearAll g r k
-          ((momentIn (checkingOf w c) y ++ momentsOf w (happens c x .chip) st) ++ rest))) z
-          ∙ n .whole rest
-          ∙ ap (λ (y : ToReceiver). before
-          ((entryIf (taking w c y) (oldest (chan w c .queue)) ++ tookOf w (happens c x .chip) st)
-          ++ n .waiting) (hearAll g (n .last) (n .check) rest)) (sym z);
-    }
+    carried n λ rest.
+    ap (λ (y : ToReceiver). before es (hearAll g r k
+    ((momentIn (checkingOf w c) y ++ momentsOf w (happens c x .chip) st) ++ rest))) z
+    ∙ n .whole rest
+    ∙ ap (λ (y : ToReceiver). before
+    ((entryIf (taking w c y) (oldest (chan w c .queue)) ++ tookOf w (happens c x .chip) st)
+    ++ n .waiting) (hearAll g (n .last) (n .check) rest)) (sym z)
 conserved w (reads {c = c} {e = x} {st = st} z i) r k q h es d e m =
     let t = read-holds m in
     let g = h .matching in
@@ -84,26 +97,18 @@ conserved w (reads {c = c} {e = x} {st = st} z i) r k q h es d e m =
     let took = entryIf (waits q) (oldest q) in
     let more = tookOf w (happens c x .chip) st in
     let ts = momentsOf w (happens c x .chip) st in
-    record {
-      last = n .last;
-      check = n .check;
-      queue = n .queue;
-      waiting = n .waiting;
-      there = n .there;
-      holds = n .holds;
-      whole = λ rest.
-          ap (λ (y : ToReceiver).
-          before es (hearAll g r k ((momentIn (checkingOf w c) y ++ ts) ++ rest))) z
-          ∙ ap (λ (l : List Entry). before l (hearAll g r k (ts ++ rest))) (t .split)
-          ∙ sym (before-join took (t .rest) (hearAll g r k (ts ++ rest)))
-          ∙ ap (before took) (n .whole rest)
-          ∙ before-join took (more ++ n .waiting) (hearAll g (n .last) (n .check) rest)
-          ∙ ap (λ (l : List Entry). before l (hearAll g (n .last) (n .check) rest))
-          (sym (append-assoc took more (n .waiting)))
-          ∙ ap₂ (λ (y : ToReceiver) (u : Side). before
-          ((entryIf (isRead y && waits (u .queue)) (oldest (u .queue)) ++ more) ++ n .waiting)
-          (hearAll g (n .last) (n .check) rest)) (sym z) (sym e);
-    }
+    carried n λ rest.
+    ap (λ (y : ToReceiver).
+    before es (hearAll g r k ((momentIn (checkingOf w c) y ++ ts) ++ rest))) z
+    ∙ ap (λ (l : List Entry). before l (hearAll g r k (ts ++ rest))) (t .split)
+    ∙ sym (before-join took (t .rest) (hearAll g r k (ts ++ rest)))
+    ∙ ap (before took) (n .whole rest)
+    ∙ before-join took (more ++ n .waiting) (hearAll g (n .last) (n .check) rest)
+    ∙ ap (λ (l : List Entry). before l (hearAll g (n .last) (n .check) rest))
+    (sym (append-assoc took more (n .waiting)))
+    ∙ ap₂ (λ (y : ToReceiver) (u : Side). before
+    ((entryIf (isRead y && waits (u .queue)) (oldest (u .queue)) ++ more) ++ n .waiting)
+    (hearAll g (n .last) (n .check) rest)) (sym z) (sym e)
 conserved w (hears {c = c} {e = x} {st = st} {b = b} z s i) r k q h es d e m =
     let g = h .matching in
     let j = checkingOf w c in
@@ -116,18 +121,10 @@ conserved w (hears {c = c} {e = x} {st = st} {b = b} z s i) r k q h es d e m =
     (es ++ handed u) d (f ∙ ap (heardSide j b) e)
     (queue-takes (u .some) (u .entry) m space (hear-plain (heeding g j) r k b)) in
     let ts = momentsOf w (happens c x .chip) st in
-    record {
-      last = n .last;
-      check = n .check;
-      queue = n .queue;
-      waiting = n .waiting;
-      there = n .there;
-      holds = n .holds;
-      whole = λ rest.
-          ap (λ (y : ToReceiver). before es (hearAll g r k ((momentIn j y ++ ts) ++ rest))) z
-          ∙ before-join es (handed u) (hearAll g (u .reception) (u .check) (ts ++ rest))
-          ∙ n .whole rest
-          ∙ ap (λ (y : ToReceiver). before
-          ((entryIf (taking w c y) (oldest (chan w c .queue)) ++ tookOf w (happens c x .chip) st)
-          ++ n .waiting) (hearAll g (n .last) (n .check) rest)) (sym z);
-    }
+    carried n λ rest.
+    ap (λ (y : ToReceiver). before es (hearAll g r k ((momentIn j y ++ ts) ++ rest))) z
+    ∙ before-join es (handed u) (hearAll g (u .reception) (u .check) (ts ++ rest))
+    ∙ n .whole rest
+    ∙ ap (λ (y : ToReceiver). before
+    ((entryIf (taking w c y) (oldest (chan w c .queue)) ++ tookOf w (happens c x .chip) st)
+    ++ n .waiting) (hearAll g (n .last) (n .check) rest)) (sym z)

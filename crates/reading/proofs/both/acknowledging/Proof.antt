@@ -12,8 +12,11 @@ service-in-both-requires c κs = tt
 may-take-requires : tie.Need-may-take-requires
 may-take-requires c κs = tt
 
-rr2-requires : tie.Need-rr2-requires
-rr2-requires c κs = tt
+highest-requires : tie.Need-highest-requires
+highest-requires c κs = tt
+
+vector-at-requires : tie.Need-vector-at-requires
+vector-at-requires c κs = tt
 
 by-requires : tie.Need-by-requires
 by-requires c κs = tt
@@ -22,7 +25,7 @@ acknowledge-requires : tie.Need-acknowledge-requires
 acknowledge-requires c κs = tt
 
 returns : tie.Need-returns
-returns c = simp (tests, c .acknowledge .ensures, c .before .by .ensures, c .before .before .rr2 .ensures, c .before .before .before .may-take .ensures, c .before .before .before .before .service-in-both .ensures, c .before .before .before .before .before .pending-in-both .ensures)
+returns c = simp (tests, c .acknowledge .ensures, ← c .before .by .ensures, ← c .before .before .vector-at .ensures, ← c .before .before .before .highest .ensures, ← c .before .before .before .before .may-take .ensures, ← c .before .before .before .before .before .service-in-both .ensures, ← c .before .before .before .before .before .before .pending-in-both .ensures)
 
 pub acknowledging-spec : {M : Type 1} → statement M
 acknowledging-spec =
@@ -31,7 +34,8 @@ acknowledging-spec =
     pending-in-both-requires
     service-in-both-requires
     may-take-requires
-    rr2-requires
+    highest-requires
+    vector-at-requires
     by-requires
     acknowledge-requires
     returns)

@@ -3,31 +3,18 @@ use Rattle.reading.proofs.Branch.{tests}
 use Rattle.reading.proofs.both.rr2.Statement.{statement}
 use Rattle.reading.proofs.both.rr2.Tie as tie
 
-status-affects-requires : tie.Need-status-affects-requires
-status-affects-requires c κs = tt
-
 pending-in-both-requires : tie.Need-pending-in-both-requires
 pending-in-both-requires c κs = tt
 
 highest-requires : tie.Need-highest-requires
 highest-requires c κs = tt
 
-special-in-both-requires : tie.Need-special-in-both-requires
-special-in-both-requires c κs = tt
-
-vector-requires : tie.Need-vector-requires
-vector-requires c κs = tt
+vector-at-requires : tie.Need-vector-at-requires
+vector-at-requires c κs = tt
 
 returns : tie.Need-returns
-returns c = simp (tests, ← c .before .special-in-both .ensures, ← c .before .before .highest .ensures, ← c .before .before .before .pending-in-both .ensures, ← c .before .before .before .before .status-affects .ensures) (c .vector .ensures)
+returns c = simp (tests, ← c .before .highest .ensures, ← c .before .before .pending-in-both .ensures) (c .vector-at .ensures)
 
 pub rr2-spec : {M : Type 1} → statement M
 rr2-spec =
-    tie.close
-    (tie.spec
-    status-affects-requires
-    pending-in-both-requires
-    highest-requires
-    special-in-both-requires
-    vector-requires
-    returns)
+    tie.close (tie.spec pending-in-both-requires highest-requires vector-at-requires returns)
