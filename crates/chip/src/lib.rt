@@ -20,7 +20,7 @@ use vector::Acked;
 ghost use mathlib.Core.Path.{_≡_};
 ghost use Rattle.common.specs.declared.Refusal.the-variants.{Channel as NoChannel};
 ghost use Rattle.chip.specs.Interrupts.{inService, acknowledge, reti};
-ghost use Rattle.chip.specs.Chip.{put, refused, hardReset, controlWrite, controlReadCall, dataWriteCall};
+ghost use Rattle.chip.specs.Chip.{put, refused, hardReset, controlWriteA, controlWrite, controlReadCall, dataWriteCall};
 ghost use Rattle.chip.specs.Chip.{dataReadCall, transmitCall, receiveCall, linesCall};
 
 pub struct Chip {
@@ -80,15 +80,22 @@ impl Chip {
         }
     }
 
-    // Control write; A's command 7 first, which ends a source in service, of either channel.
-    pub fn control_write(mut self, ch: u8, v: u8) -> Outcome
+    // A's control write: command 7 first, which ends a source in service, of either channel. Written out in its call it takes that more stack.
+    fn write_a(mut self, v: u8) -> Outcome
+        ensures { λ r. ⌜ r ≡ controlWriteA self v ⌝ }
+    {
+        let s = service_under(self.a, self.b, v);
+        self.b = self.b.serving(s.b);
+        self.put(0, control_write_a(self.a, s.a, v))
+    }
+
+    // Control write.
+    pub fn control_write(self, ch: u8, v: u8) -> Outcome
         ensures { λ r. ⌜ r ≡ controlWrite self ch v ⌝ }
     {
         match ch {
             0 => {
-                let s = service_under(self.a, self.b, v);
-                self.b = self.b.serving(s.b);
-                return self.put(ch, control_write_a(self.a, s.a, v));
+                return self.write_a(v);
             }
             1 => {
                 return self.put(ch, control_write_b(self.b, v));

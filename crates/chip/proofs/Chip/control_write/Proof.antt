@@ -1,54 +1,41 @@
 -- `chip::Chip::control_write` meets its contract: each return by the facts on its way. Assumes nothing.
 use Rattle.chip.proofs.Branch.{tests}
 use Rattle.chip.specs.Chip.{controlWrite}
-use Rattle.chip.specs.Chip.{controlWriteA}
 use Rattle.chip.proofs.Chip.control_write.Statement.{statement}
 use Rattle.chip.proofs.Chip.control_write.Tie as tie
 
-service-under-requires : tie.Need-service-under-requires
-service-under-requires c κs = tt
-
-serving-requires : tie.Need-serving-requires
-serving-requires c κs = tt
-
-control-write-a-requires : tie.Need-control-write-a-requires
-control-write-a-requires c κs = tt
-
-put-requires : tie.Need-put-requires
-put-requires c κs = tt
+write-a-requires : tie.Need-write-a-requires
+write-a-requires c κs = tt
 
 returns : tie.Need-returns
-unfolding controlWrite controlWriteA
-returns c = simp (tests, c .put .ensures, c .before .before .before .before .match .keys1, ← c .before .control-write-a .ensures, ← c .before .before .serving .ensures, ← c .before .before .before .service-under .ensures)
+unfolding controlWrite
+returns c = simp (tests, c .before .match .keys1) (c .write-a .ensures)
 
 control-write-b-requires : tie.Need-control-write-b-requires
 control-write-b-requires c κs = tt
 
-put-requires-2 : tie.Need-put-requires-2
-put-requires-2 c κs = tt
+put-requires : tie.Need-put-requires
+put-requires c κs = tt
 
 returns-2 : tie.Need-returns-2
-unfolding controlWrite controlWriteA
-returns-2 c = simp (tests, c .put2 .ensures, c .before .before .match .keys2, ← c .before .control-write-b .ensures)
+unfolding controlWrite
+returns-2 c = simp (tests, c .put .ensures, c .before .before .match .keys2, ← c .before .control-write-b .ensures)
 
 no-channel-requires : tie.Need-no-channel-requires
 no-channel-requires c κs = tt
 
 returns-3 : tie.Need-returns-3
-unfolding controlWrite controlWriteA
+unfolding controlWrite
 returns-3 c = simp (tests, c .before .match .rest .1, c .before .match .rest .0 .1) (c .no-channel .ensures)
 
 pub control-write-spec : {M : Type 1} → statement M
 control-write-spec =
     tie.close
     (tie.spec
-    service-under-requires
-    serving-requires
-    control-write-a-requires
-    put-requires
+    write-a-requires
     returns
     control-write-b-requires
-    put-requires-2
+    put-requires
     returns-2
     no-channel-requires
     returns-3)
