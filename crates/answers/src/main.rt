@@ -1,14 +1,10 @@
 // Known answers, read from standard input as scripts/assemble makes them of scripts/*.txt: cases, each a hard reset and a run of items. An item makes
 // one call and compares what it gives with what it must give. A line says of each case whether all its answers are right, and the last how many are.
 // All that matters is in the crate playing, and in items and calls below it.
-use channel::Answer;
-use chip::Chip;
-use chip::Outcome;
-use items::Sheet;
 ghost use mathlib.Core.Path.{_≡_};
 ghost use lib.ListN.{length};
 ghost use Rattle.items.specs.Lines.{ended};
-ghost use Rattle.playing.specs.Playing.{atFirst, played};
+ghost use Rattle.playing.specs.Playing.{played};
 
 // Room for all items.
 const INPUT: usize = 262144;
@@ -28,31 +24,12 @@ fn space() -> [u8; SPACE]
     [0; SPACE]
 }
 
-// A hard reset, and nothing was answered.
-fn start() -> Outcome
-    ensures { λ r. ⌜ r ≡ atFirst ⌝ }
-{
-    Outcome {
-        answer: Answer::Done,
-        chip: Chip::reset(),
-    }
-}
-
-// All items are played from there on.
-fn play(input: &[u8], desk: &mut [u8], out: &mut [u8]) -> Sheet
-    ensures { λ r. ⌜ r ≡ played (now (input .entry)) (now (desk .entry)) (now (out .entry)) .sheet ⌝ }
-    ensures { λ r. ⌜ now (desk .exit) ≡ played (now (input .entry)) (now (desk .entry)) (now (out .entry)) .desk ⌝ }
-    ensures { λ r. ⌜ now (out .exit) ≡ played (now (input .entry)) (now (desk .entry)) (now (out .entry)) .out ⌝ }
-{
-    playing::all_rounds(start(), Sheet::start(), input, desk, out)
-}
-
 // The items are played, and the last line told; gives where the lines end.
 fn told(input: &[u8], desk: &mut [u8], out: &mut [u8]) -> usize
     ensures { λ r. ⌜ r ≡ ended (played (now (input .entry)) (now (desk .entry)) (now (out .entry)) .sheet) (played (now (input .entry)) (now (desk .entry)) (now (out .entry)) .out) .end ⌝ }
     ensures { λ r. ⌜ now (out .exit) ≡ ended (played (now (input .entry)) (now (desk .entry)) (now (out .entry)) .sheet) (played (now (input .entry)) (now (desk .entry)) (now (out .entry)) .out) .cells ⌝ }
 {
-    let s = play(input, desk, out);
+    let s = playing::play(input, desk, out);
     items::ended(s, out)
 }
 

@@ -9,7 +9,7 @@ use items::Sheet;
 ghost use mathlib.Core.Path.{_≡_};
 ghost use Rattle.items.specs.Sheet.{dealtSheet, dealtDesk};
 ghost use Rattle.items.specs.Lines.{told};
-ghost use Rattle.playing.specs.Playing.{otherValue, turned, judged, playing, allRounds};
+ghost use Rattle.playing.specs.Playing.{otherValue, turned, judged, atFirst, playing, allRounds, played};
 
 // What a call other than an event gives.
 fn value_of(c: Chip, s: Sheet, desk: &[u8]) -> u8
@@ -43,14 +43,8 @@ fn next(s: Sheet, input: &[u8], desk: &mut [u8], out: &mut [u8], w: Answer) -> S
     items::next(s, input, desk, out, w.number(), w.value())
 }
 
-// All items that are left, from the chip behind this answer on, are played one after another, and the cases told.
-pub fn all_rounds(
-    mut t: Outcome,
-    mut s: Sheet,
-    input: &[u8],
-    desk: &mut [u8],
-    out: &mut [u8],
-) -> Sheet
+// All items that are left, from the chip behind this answer on.
+fn all_rounds(mut t: Outcome, mut s: Sheet, input: &[u8], desk: &mut [u8], out: &mut [u8]) -> Sheet
     ensures { λ r. ⌜ r ≡ allRounds (now (input .entry)) (playing s (t .chip) (now (desk .entry)) (now (out .entry))) .sheet ⌝ }
     ensures { λ r. ⌜ now (desk .exit) ≡ allRounds (now (input .entry)) (playing s (t .chip) (now (desk .entry)) (now (out .entry))) .desk ⌝ }
     ensures { λ r. ⌜ now (out .exit) ≡ allRounds (now (input .entry)) (playing s (t .chip) (now (desk .entry)) (now (out .entry))) .out ⌝ }
@@ -61,4 +55,23 @@ pub fn all_rounds(
         s = next(s, input, desk, out, w);
     }
     s
+}
+
+// A hard reset, and nothing was answered.
+fn start() -> Outcome
+    ensures { λ r. ⌜ r ≡ atFirst ⌝ }
+{
+    Outcome {
+        answer: Answer::Done,
+        chip: Chip::reset(),
+    }
+}
+
+// All items are played from there on, one after another, and the cases told.
+pub fn play(input: &[u8], desk: &mut [u8], out: &mut [u8]) -> Sheet
+    ensures { λ r. ⌜ r ≡ played (now (input .entry)) (now (desk .entry)) (now (out .entry)) .sheet ⌝ }
+    ensures { λ r. ⌜ now (desk .exit) ≡ played (now (input .entry)) (now (desk .entry)) (now (out .entry)) .desk ⌝ }
+    ensures { λ r. ⌜ now (out .exit) ≡ played (now (input .entry)) (now (desk .entry)) (now (out .entry)) .out ⌝ }
+{
+    all_rounds(start(), Sheet::start(), input, desk, out)
 }

@@ -1,11 +1,11 @@
--- `answers::play` meets its contract: it plays all rounds from the start. Assumes nothing.
+-- `playing::play` meets its contract: it plays all rounds from the start. Assumes nothing.
 use mathlib.Core.Path.{ap, _∙_}
 use denote.Ref.{now}
 use Rattle.chip.specs.declared.Outcome.{Outcome}
 use Rattle.items.specs.declared.Sheet.{Sheet}
 use Rattle.playing.specs.Playing.{Play, atFirst, playing, allRounds, played}
-use Rattle.answers.proofs.play.Statement.{statement}
-use Rattle.answers.proofs.play.Tie as tie
+use Rattle.playing.proofs.play.Statement.{statement}
+use Rattle.playing.proofs.play.Tie as tie
 
 start-requires : tie.Need-start-requires
 start-requires c κs = tt

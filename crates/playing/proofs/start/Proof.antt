@@ -1,6 +1,6 @@
--- `answers::start` meets its contract: a hard reset, and nothing was answered. Assumes nothing.
-use Rattle.answers.proofs.start.Statement.{statement}
-use Rattle.answers.proofs.start.Tie as tie
+-- `playing::start` meets its contract: a hard reset, and nothing was answered. Assumes nothing.
+use Rattle.playing.proofs.start.Statement.{statement}
+use Rattle.playing.proofs.start.Tie as tie
 
 reset-requires : tie.Need-reset-requires
 reset-requires c κs = tt
