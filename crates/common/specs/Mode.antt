@@ -6,6 +6,7 @@ use Prim.Native.Nat.{ℕ}
 use lib.Dec.{eqb}
 use borrow.Author.Tests.{eqb-true}
 use Rattle.common.specs.Choice.{if_then_else_}
+use Rattle.common.specs.Tools.{void}
 use Rattle.common.specs.declared.Mode.{Mode}
 use Rattle.common.specs.declared.Mode.the-variants.{NoMode, Asynchronous, Monosync, Bisync}
 use Rattle.common.specs.declared.Mode.the-variants.{Sdlc}
@@ -24,6 +25,14 @@ inBlocks Asynchronous = false
 inBlocks Monosync = true
 inBlocks Bisync = true
 inBlocks Sdlc = false
+
+-- what is so of both is so of a mode that is one of them
+pub of-blocks : (P : Mode → Type 0) → P Monosync → P Bisync → (m : Mode) → inBlocks m ≡ true → P m
+of-blocks P p q NoMode e = void e
+of-blocks P p q Asynchronous e = void e
+of-blocks P p q Monosync e = p
+of-blocks P p q Bisync e = q
+of-blocks P p q Sdlc e = void e
 
 -- 01, Registers: WR4 "D3-2 .. 00 synchronous"
 abbrev pub synchronous : Mode → Bool

@@ -4,10 +4,9 @@ use mathlib.Core.Bool.{Bool, true, false, _&&_, _||_}
 use Prim.Native.Nat.{ℕ}
 use lib.Dec.{eqb}
 use Rattle.common.specs.Choice.{if_then_else_}
-use Rattle.common.specs.Mode.{inSdlc, inBlocks, synchronous}
-use Rattle.common.specs.Tools.{if-elim, void}
+use Rattle.common.specs.Mode.{inSdlc, inBlocks, of-blocks, synchronous}
+use Rattle.common.specs.Tools.{if-elim}
 use Rattle.common.specs.declared.Mode.{Mode}
-use Rattle.common.specs.declared.Mode.the-variants.{NoMode, Asynchronous, Monosync, Bisync, Sdlc}
 use Rattle.receiver.specs.declared.Receiver.{Receiver}
 use Rattle.receiver.specs.Receiver.{enterHunt}
 use Rattle.settings.specs.Settings.{store3, entersHunt, modeIn, receivingOf}
@@ -37,18 +36,10 @@ unlatched-shows s was is n h =
     (if-elim (λ (x : Status). shownBits x is .hunt ≡ true) (changed was is) h p)
 
 blocks-synchronous : (m : Mode) → inBlocks m ≡ true → synchronous m ≡ true
-blocks-synchronous NoMode e = void e
-blocks-synchronous Asynchronous e = void e
-blocks-synchronous Monosync e = refl
-blocks-synchronous Bisync e = refl
-blocks-synchronous Sdlc e = refl
+blocks-synchronous = of-blocks (λ (m : Mode). synchronous m ≡ true) refl refl
 
 hunts : (m : Mode) → inBlocks m ≡ true → (inSdlc m && true) || (inBlocks m && true) ≡ true
-hunts NoMode e = void e
-hunts Asynchronous e = void e
-hunts Monosync e = refl
-hunts Bisync e = refl
-hunts Sdlc e = refl
+hunts = of-blocks (λ (m : Mode). (inSdlc m && true) || (inBlocks m && true) ≡ true) refl refl
 
 -- what the write leaves
 abbrev huntIn : Channel → ℕ → Channel

@@ -1,10 +1,10 @@
 -- A tick in SDLC, in Monosync and in Bisync, and that what it hands over is plain. Assumes nothing.
 use mathlib.Core.Path.{_≡_, refl, ap, _∙_}
 use mathlib.Core.Bool.{Bool, true}
-use Rattle.common.specs.Mode.{inBlocks}
-use Rattle.common.specs.Tools.{if-elim, void}
+use Rattle.common.specs.Mode.{inBlocks, of-blocks}
+use Rattle.common.specs.Tools.{if-elim}
 use Rattle.common.specs.declared.Mode.{Mode}
-use Rattle.common.specs.declared.Mode.the-variants.{NoMode, Asynchronous, Monosync, Bisync, Sdlc}
+use Rattle.common.specs.declared.Mode.the-variants.{Monosync, Bisync, Sdlc}
 use Rattle.queue.specs.Holding.{Plain, plain}
 use Rattle.bytesync.specs.Hearing.{hearBlock}
 use Rattle.sdlc.specs.Hearing.{hearSdlc}
@@ -44,14 +44,8 @@ hear-bisync g s b m = ap (λ (k : Mode). hearIn k g s b) m
 pub blocks-heard : (g : Receiving) (s : Receiver) (b : Bool) → inBlocks (g .mode) ≡ true
     → hear g s b ≡ hearInBlocks g s b
 unfolding hear
-blocks-heard g s b m = blocks-in (g .mode) m
-  where
-    blocks-in : (k : Mode) → inBlocks k ≡ true → hearIn k g s b ≡ hearInBlocks g s b
-    blocks-in NoMode e = void e
-    blocks-in Asynchronous e = void e
-    blocks-in Monosync e = refl
-    blocks-in Bisync e = refl
-    blocks-in Sdlc e = void e
+blocks-heard g s b m =
+    of-blocks (λ (k : Mode). hearIn k g s b ≡ hearInBlocks g s b) refl refl (g .mode) m
 
 pub hear-blocks : (g : Receiving) (s : Receiver) (b : Bool) → inBlocks (g .mode) ≡ true
     → g .on ≡ true → hear g s b ≡ byMatched s (hearBlock (g .matching) (s .reception) (s .check) b)

@@ -2,8 +2,7 @@
 -- nothing.
 use mathlib.Core.Path.{_≡_, refl}
 use mathlib.Core.Bool.{true, false}
-use Rattle.common.specs.Mode.{inSdlc, inBlocks}
-use Rattle.common.specs.Tools.{void}
+use Rattle.common.specs.Mode.{inSdlc, inBlocks, of-blocks}
 use Rattle.common.specs.declared.Mode.{Mode}
 use Rattle.common.specs.declared.Mode.the-variants.{NoMode, Asynchronous, Monosync, Bisync, Sdlc}
 use Rattle.asynchronous.specs.Sending.{tickCharacter}
@@ -35,16 +34,9 @@ module _ (g : Sending) (s : Sender) where
   tick-bisync m = rw m
 
   -- the mode is one of the two
-  blocks-in : (m : Mode) → inBlocks m ≡ true → tickIn m g s ≡ tickInBlocks g s
-  blocks-in NoMode e = void e
-  blocks-in Asynchronous e = void e
-  blocks-in Monosync e = refl
-  blocks-in Bisync e = refl
-  blocks-in Sdlc e = void e
-
   pub tick-blocks : inBlocks (g .mode) ≡ true → tick g s ≡ tickInBlocks g s
   unfolding tick
-  tick-blocks e = blocks-in (g .mode) e
+  tick-blocks e = of-blocks (λ (m : Mode). tickIn m g s ≡ tickInBlocks g s) refl refl (g .mode) e
 
   pub tick-no-mode : g .mode ≡ NoMode → tick g s ≡ ticked true false s
   unfolding tick
