@@ -25,7 +25,7 @@ use Rattle.channel.specs.Channel.{settled}
 use Rattle.channel.specs.Control.{commanded, preset, commandStep, presetStep, writeWr0}
 use Rattle.channel.specs.Control.{controlWritten}
 use Rattle.chip.specs.declared.Chip.{Chip}
-use Rattle.chip.specs.Chip.{controlWriteA, controlWrite}
+use Rattle.chip.specs.Chip.{controlWriteA, controlWriteB, controlWrite}
 use Rattle.chip.specs.Event.{Event, ControlWrite, Transmit}
 use Rattle.whole.specs.Come.{flagTail}
 use Rattle.stories.specs.Story.{Which, A, B, number, chan, happens}
@@ -74,11 +74,8 @@ write-cuts c s v p e h a =
 pub abort-cut : (w : Which) (c : Chip) (v : ℕ) → SendsAbort w c v → Good (sendingIn (chan w c))
     → aborting (chan w c .sender .unit) ≡ false
     → CutFrom (chan w c) (chan w (happens c (ControlWrite (number w) v) .chip))
-unfolding controlWrite controlWriteA
-abort-cut A c v s h a =
-    let x : eqb (c .a .pointer) 0 ≡ true = ap (λ (n : ℕ). eqb n 0) (s .to-wr0) in
-    let y : eqb (commandIn v) 7 ≡ false = ap (λ (n : ℕ). eqb n 7) (s .command) in
-    rw (x, y) (write-cuts (c .a) channels.A v (s .to-wr0) (s .command) h a)
+unfolding controlWrite controlWriteA controlWriteB
+abort-cut A c v s h a = write-cuts (c .a) channels.A v (s .to-wr0) (s .command) h a
 abort-cut B c v s h a = write-cuts (c .b) channels.B v (s .to-wr0) (s .command) h a
 
 -- An abort that is left to run

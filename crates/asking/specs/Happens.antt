@@ -3,11 +3,11 @@
 use mathlib.Core.Bool.{_&&_}
 use Prim.Native.Nat.{_%_}
 use Rattle.common.specs.Choice.{if_then_else_}
-use Rattle.interrupts.specs.Interrupts.{six, noSources}
+use Rattle.interrupts.specs.Interrupts.{noSix}
 use Rattle.status.specs.Status.{status}
 use Rattle.settings.specs.Settings.{store2}
 use Rattle.channel.specs.Channel.{withRegisters, withStatus}
-use Rattle.chip.specs.Interrupts.{chip, inService}
+use Rattle.chip.specs.Interrupts.{withB, inService}
 use Rattle.chip.specs.Event.{Reti, step}
 use Rattle.tales.specs.Tale.{Happens}
 use Rattle.tales.specs.Kind.{valueOf, isAcknowledge, isReti, isCommand, isWrite}

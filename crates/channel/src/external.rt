@@ -1,10 +1,8 @@
-// 01, Interrupts and external status: the five bits of RR0 as they now are, the status rule that every step runs, and the sources in service.
-// Assumes nothing.
+// 01, Interrupts and external status: the five bits of RR0 as they now are, and the status rule that every step runs. Assumes nothing.
 use crate::Channel;
-use interrupts::Sources;
 use status::Live;
 ghost use mathlib.Core.Path.{_≡_};
-ghost use Rattle.channel.specs.Channel.{liveOf, settled, withService};
+ghost use Rattle.channel.specs.Channel.{liveOf, settled};
 
 impl Channel {
     // The five bits as they now are.
@@ -29,14 +27,6 @@ impl Channel {
         ensures { λ r. ⌜ r ≡ settled was self ⌝ }
     {
         self.status = self.status.noticed(was.live(), self.live());
-        self
-    }
-
-    // These sources are in service, and nothing else changes.
-    pub fn serving(mut self, s: Sources) -> Channel
-        ensures { λ r. ⌜ r ≡ withService self s ⌝ }
-    {
-        self.service = s;
         self
     }
 }

@@ -5,7 +5,6 @@ mod external;
 pub use crate::events::cell;
 use common::Mode;
 use common::Refusal;
-use interrupts::Sources;
 use queue::Queue;
 use receiver::Receiver;
 use sender::Sender;
@@ -25,16 +24,14 @@ pub enum Side {
 
 // Its parts stand in the order in which the fewest instructions move a channel through a tick (bench/README.md).
 pub struct Channel {
-    pub lines: Lines,
-    pub status: Status,
     pub receiver: Receiver,
-    // the sources in service
-    pub service: Sources,
-    // the first-character interrupt
-    pub armed: bool,
     // the register that the next control read or write names
     pub pointer: u8,
+    pub lines: Lines,
     pub queue: Queue,
+    pub status: Status,
+    // the first-character interrupt
+    pub armed: bool,
     // transmit is pending
     pub transmit: bool,
     pub sender: Sender,
@@ -126,7 +123,6 @@ impl Channel {
             pointer: 0,
             armed: true,
             transmit: false,
-            service: Sources::none(),
         }
     }
 }

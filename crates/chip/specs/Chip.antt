@@ -6,7 +6,7 @@ use lib.Dec.{eqb}
 use Rattle.common.specs.Choice.{if_then_else_}
 use Rattle.common.specs.declared.Refusal.{Refusal}
 use Rattle.common.specs.declared.Refusal.the-variants as refusal
-use Rattle.interrupts.specs.declared.Six.{Six}
+use Rattle.interrupts.specs.Interrupts.{noSix}
 use Rattle.channel.specs.declared.Side.the-variants.{A, B}
 use Rattle.channel.specs.declared.Answer.{Answer}
 use Rattle.channel.specs.declared.Answer.the-variants.{Done, Refused}
@@ -16,11 +16,11 @@ use Rattle.channel.specs.Channel.{answered, resetWith}
 use Rattle.channel.specs.Control.{controlWritten, controlRead}
 use Rattle.channel.specs.Events.{dataWritten, dataRead, transmitTick}
 pub use Rattle.channel.specs.Events.{onLevel, receiveIn, linesIn}
-pub use Rattle.reading.specs.Both.{endsService}
-use Rattle.reading.specs.Both.{serviceUnder}
+pub use Rattle.reading.specs.Both.{endsService, resets}
+use Rattle.reading.specs.Both.{serviceUnderA, serviceUnderB}
 use Rattle.chip.specs.declared.Chip.{Chip}
 use Rattle.chip.specs.declared.Outcome.{Outcome}
-use Rattle.chip.specs.Interrupts.{chip, inService, anyPending, rr2}
+use Rattle.chip.specs.Interrupts.{chip, withA, withB, inService, anyPending, rr2}
 
 -- What a call hands back
 
@@ -33,10 +33,10 @@ refused c k = outcome (Refused k) c
 
 -- the answer of a channel's event, with that channel put back
 abbrev pub inA : Chip → Answered → Outcome
-inA c r = outcome (r .answer) (chip (r .channel) (c .b))
+inA c r = outcome (r .answer) (withA c (r .channel))
 
 abbrev pub inB : Chip → Answered → Outcome
-inB c r = outcome (r .answer) (chip (c .a) (r .channel))
+inB c r = outcome (r .answer) (withB c (r .channel))
 
 abbrev pub put : Chip → ℕ → Answered → Outcome
 put c ch r = if eqb ch 0 then inA c r else inB c r
@@ -54,21 +54,21 @@ inChannel c ch call = byChannel c ch (inA c (call (c .a))) (inB c (call (c .b)))
 abbrev pub hardReset : Chip
 hardReset =
     chip (resetWith (record { dcd = false; cts = false }))
-    (resetWith (record { dcd = false; cts = false }))
+    (resetWith (record { dcd = false; cts = false })) noSix
 
 -- Control writes and reads
 
--- WR0's command 7 ends a source in service
-abbrev pub serviceBy : Chip → ℕ → Six
-serviceBy c v = serviceUnder (c .a) (c .b) v
-
+-- WR0's command 7 ends a source in service, and a channel reset those of its channel
 unfoldable pub controlWriteA : Chip → ℕ → Outcome
 controlWriteA c v =
-    let d = inService c (serviceBy c v) in
-    inA d (controlWritten (d .a) A v)
+    inA (inService c (serviceUnderA (c .a) (c .service) v)) (controlWritten (c .a) A v)
+
+unfoldable pub controlWriteB : Chip → ℕ → Outcome
+controlWriteB c v =
+    inB (inService c (serviceUnderB (c .b) (c .service) v)) (controlWritten (c .b) B v)
 
 unfoldable pub controlWrite : Chip → ℕ → ℕ → Outcome
-controlWrite c ch v = byChannel c ch (controlWriteA c v) (inB c (controlWritten (c .b) B v))
+controlWrite c ch v = byChannel c ch (controlWriteA c v) (controlWriteB c v)
 
 -- RR0 "D1 any source pending (A; 0 in B)"; "RR2: vector, B"
 unfoldable pub controlReadCall : Chip → ℕ → Outcome

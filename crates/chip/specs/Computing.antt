@@ -26,7 +26,8 @@ use Rattle.channel.specs.Control.{setRegister, controlWritten, rr0, rr1Now, rea
 use Rattle.channel.specs.Events.{dataRead, transmitTick, receiveTick, linesSet, specialWaits}
 use Rattle.channel.specs.Events.{receivePending, pendingIn}
 use Rattle.chip.specs.Interrupts.{pendingOf, anyPending, rr2, acknowledge, reti}
-use Rattle.chip.specs.Chip.{controlWriteA, controlWrite, controlReadCall, dataWriteCall}
+use Rattle.chip.specs.Chip.{controlWriteA, controlWriteB, controlWrite}
+use Rattle.chip.specs.Chip.{controlReadCall, dataWriteCall}
 use Rattle.chip.specs.Chip.{dataReadCall, transmitCall, receiveCall, linesCall}
 
 unfoldable pub computing : ℕ
@@ -39,5 +40,5 @@ unfolding
     writeWr0 setWr4 setRegister controlWritten rr0 rr1Now readRegister dataRead transmitTick
     receiveTick linesSet specialWaits receivePending pendingIn highest anyOf withLevel mayTake
     acknowledged ended codeOf vectorOf pendingOf anyPending rr2 acknowledge reti controlWriteA
-    controlWrite controlReadCall dataWriteCall dataReadCall transmitCall receiveCall linesCall
+    controlWriteB controlWrite controlReadCall dataWriteCall dataReadCall transmitCall receiveCall linesCall
 computing = 0

@@ -9,8 +9,8 @@ use interrupts::Six;
 use reading::acknowledging;
 use reading::control_read_a;
 use reading::control_read_b;
-use reading::service_in_both;
-use reading::service_under;
+use reading::service_under_a;
+use reading::service_under_b;
 use settings::Lines;
 use ticking::receive_a;
 use ticking::receive_b;
@@ -19,25 +19,28 @@ use ticking::transmit_b;
 use vector::Acked;
 ghost use mathlib.Core.Path.{_≡_};
 ghost use Rattle.common.specs.declared.Refusal.the-variants.{Channel as NoChannel};
-ghost use Rattle.chip.specs.Interrupts.{inService, acknowledge, reti};
-ghost use Rattle.chip.specs.Chip.{put, refused, hardReset, controlWriteA, controlWrite, controlReadCall, dataWriteCall};
+ghost use Rattle.chip.specs.Interrupts.{acknowledge, reti};
+ghost use Rattle.chip.specs.Chip.{put, refused, hardReset, controlWriteA, controlWriteB, controlWrite};
+ghost use Rattle.chip.specs.Chip.{controlReadCall, dataWriteCall};
 ghost use Rattle.chip.specs.Chip.{dataReadCall, transmitCall, receiveCall, linesCall};
 
 pub struct Chip {
     pub a: Channel,
     pub b: Channel,
+    // the sources in service
+    pub service: Six,
 }
 
 // What a call answers, and the chip after it.
 pub struct Outcome {
-    pub answer: Answer,
     pub chip: Chip,
+    pub answer: Answer,
 }
 
 // What an acknowledge answers, and the chip after it.
 pub struct Acknowledged {
-    pub acked: Acked,
     pub chip: Chip,
+    pub acked: Acked,
 }
 
 // Each call by its channel. Its arms return, one by one: an answer that all of them make is laid out once more, and proved.
@@ -50,7 +53,11 @@ impl Chip {
             dcd: false,
             cts: false,
         });
-        Chip { a: c, b: c }
+        Chip {
+            a: c,
+            b: c,
+            service: Six::none(),
+        }
     }
 
     // A's answer, with B as it was, or B's, with A.
@@ -80,13 +87,19 @@ impl Chip {
         }
     }
 
-    // A's control write: command 7 first, which ends a source in service, of either channel. Written out in its call it takes that more stack.
+    // A's control write, and B's. Written out in their call they take that more stack.
     fn write_a(mut self, v: u8) -> Outcome
         ensures { λ r. ⌜ r ≡ controlWriteA self v ⌝ }
     {
-        let s = service_under(self.a, self.b, v);
-        self.b = self.b.serving(s.b);
-        self.put(0, control_write_a(self.a, s.a, v))
+        self.service = service_under_a(self.a, self.service, v);
+        self.put(0, control_write_a(self.a, v))
+    }
+
+    fn write_b(mut self, v: u8) -> Outcome
+        ensures { λ r. ⌜ r ≡ controlWriteB self v ⌝ }
+    {
+        self.service = service_under_b(self.b, self.service, v);
+        self.put(1, control_write_b(self.b, v))
     }
 
     // Control write.
@@ -98,7 +111,7 @@ impl Chip {
                 return self.write_a(v);
             }
             1 => {
-                return self.put(ch, control_write_b(self.b, v));
+                return self.write_b(v);
             }
             _ => {
                 return self.no_channel();
@@ -216,22 +229,14 @@ impl Chip {
         }
     }
 
-    // These sources are in service, and nothing else changes.
-    fn in_service(mut self, s: Six) -> Chip
-        ensures { λ r. ⌜ r ≡ inService self s ⌝ }
-    {
-        self.a = self.a.serving(s.a);
-        self.b = self.b.serving(s.b);
-        self
-    }
-
     // Acknowledge.
     pub fn acknowledge(mut self) -> Acknowledged
         ensures { λ r. ⌜ r ≡ acknowledge self ⌝ }
     {
-        let t = acknowledging(self.a, self.b);
+        let t = acknowledging(self.a, self.b, self.service);
         let w = t.acked;
-        self = self.in_service(t.service);
+        let s = t.service;
+        self.service = s;
         Acknowledged {
             acked: w,
             chip: self,
@@ -239,9 +244,10 @@ impl Chip {
     }
 
     // RETI.
-    pub fn reti(self) -> Chip
+    pub fn reti(mut self) -> Chip
         ensures { λ r. ⌜ r ≡ reti self ⌝ }
     {
-        self.in_service(service_in_both(self.a, self.b).reti())
+        self.service = self.service.reti();
+        self
     }
 }

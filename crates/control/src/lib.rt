@@ -9,7 +9,6 @@ use common::Refusal;
 use common::in_blocks;
 use common::in_sdlc;
 use common::mode_number;
-use interrupts::Sources;
 use settings::command_in;
 use settings::enters_hunt;
 use settings::mode_of;
@@ -20,7 +19,7 @@ use settings::transmit_on;
 ghost use mathlib.Core.Path.{_≡_};
 ghost use Rattle.common.specs.Mode.{synchronous, sameMode};
 ghost use Rattle.channel.specs.declared.Side.the-variants.{A as OfA, B as OfB};
-ghost use Rattle.channel.specs.Channel.{withPointer, withService, settled};
+ghost use Rattle.channel.specs.Channel.{withPointer, settled};
 ghost use Rattle.channel.specs.Control.{commanded, preset, commandStep, presetStep, writeWr0, setWr1, setWr2, setWr3, inMode, setWr4, setRegister, controlWritten};
 
 // The two modes are one.
@@ -217,11 +216,11 @@ pub fn control_write(mut c: Channel, w: Side, v: u8) -> Answered
     }
 }
 
-// A's control write, with these sources in service; and B's.
-pub fn control_write_a(a: Channel, s: Sources, v: u8) -> Answered
-    ensures { λ r. ⌜ r ≡ controlWritten (withService a s) OfA v ⌝ }
+// A's control write, and B's.
+pub fn control_write_a(a: Channel, v: u8) -> Answered
+    ensures { λ r. ⌜ r ≡ controlWritten a OfA v ⌝ }
 {
-    control_write(a.serving(s), Side::A, v)
+    control_write(a, Side::A, v)
 }
 
 pub fn control_write_b(b: Channel, v: u8) -> Answered

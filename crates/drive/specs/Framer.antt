@@ -10,7 +10,7 @@ use Rattle.channel.specs.declared.Channel.{Channel}
 use Rattle.status.specs.Status.{noticed}
 use Rattle.channel.specs.Channel.{withSender, withStatus, withTransmit, liveOf}
 use Rattle.chip.specs.declared.Chip.{Chip}
-use Rattle.chip.specs.Interrupts.{chip}
+use Rattle.chip.specs.Interrupts.{withA}
 
 -- the five live bits, but for the underrun latch
 abbrev pub withUnderrun : Live → Bool → Live
@@ -26,4 +26,4 @@ channelWith a s =
     (not (s .shared .full) && transmitOn (a .registers .wr1))
 
 abbrev pub chipWith : Chip → Framer → Chip
-chipWith c s = chip (channelWith (c .a) s) (c .b)
+chipWith c s = withA c (channelWith (c .a) s)

@@ -33,13 +33,12 @@ pub record ModeChanged (v : ℕ) (was is : Channel) : Type 0 where
   pub character : is .receiver .assembly ≡ noAssembly false
   pub frame : is .receiver .content ≡ contentAt (synchronous (modeOf v)) false 0
   pub block-heard : is .receiver .reception ≡ searching (synchronous (modeOf v))
-  -- kept: D6, both checks, the armed flag, the sources pending by a load and in service, the lines
+  -- kept: D6, both checks, the armed flag, the source pending by a load, the lines
   pub d6 : is .sender .shared .latch ≡ was .sender .shared .latch
   pub sent : is .sender .shared .check ≡ was .sender .shared .check
   pub heard : is .receiver .check ≡ was .receiver .check
   pub armed : is .armed ≡ was .armed
   pub transmit : is .transmit ≡ was .transmit
-  pub service : is .service ≡ was .service
   pub lines : is .lines ≡ was .lines
 
 -- WR4 is v, and the mode the same: nothing is cut short or dropped
@@ -50,5 +49,4 @@ pub record ModeKept (v : ℕ) (was is : Channel) : Type 0 where
   pub queue : is .queue ≡ was .queue
   pub armed : is .armed ≡ was .armed
   pub transmit : is .transmit ≡ was .transmit
-  pub service : is .service ≡ was .service
   pub lines : is .lines ≡ was .lines

@@ -7,6 +7,7 @@ use mathlib.Core.Bool.{true, false}
 use Rattle.common.specs.declared.Mode.the-variants.{NoMode}
 use Rattle.line.specs.Check.{ones}
 use Rattle.queue.specs.Queue.{waits}
+use Rattle.interrupts.specs.declared.Sources.{Sources}
 use Rattle.interrupts.specs.Interrupts.{noSources}
 use Rattle.settings.specs.declared.Lines.{Lines}
 use Rattle.settings.specs.Settings.{modeIn}
@@ -15,8 +16,8 @@ use Rattle.channel.specs.Channel.{noRegisters, liveOf}
 use Rattle.channel.specs.Control.{rr1Now}
 use Rattle.channel.specs.Events.{pendingIn}
 
--- a channel just reset, its lines being these
-pub record ResetChannel (lines : Lines) (is : Channel) : Type 0 where
+-- a channel just reset, its lines being these, with its sources in service
+pub record ResetChannel (lines : Lines) (is : Channel) (served : Sources) : Type 0 where
   -- "zeroes the WRs"
   pub registers : is .registers ≡ noRegisters
   -- "empties buffer and queue"
@@ -35,7 +36,7 @@ pub record ResetChannel (lines : Lines) (is : Channel) : Type 0 where
   pub heard : is .receiver .check ≡ ones
   -- "ends that channel's pending and in-service sources"
   pub pending : pendingIn is ≡ noSources
-  pub service : is .service ≡ noSources
+  pub service : served ≡ noSources
   -- "unlatches external status"
   pub unlatched : is .status .latched ≡ false
   -- "Channel Reset ignores the other fields."

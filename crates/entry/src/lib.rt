@@ -5,7 +5,6 @@ ghost use Rattle.entry.specs.Entry.{received, noEntry, overran, rr1With,
 
 // A character with its marks.
 pub struct Entry {
-    pub byte: u8,
     // its parity is wrong
     pub parity: bool,
     // it replaced the newest of a full queue
@@ -16,6 +15,7 @@ pub struct Entry {
     pub ends: bool,
     // it ends a frame whose check is bad
     pub bad: bool,
+    pub byte: u8,
 }
 
 // RR1's bits by their weight; D3-1 binary 011 says that a frame ended on a whole character.

@@ -27,8 +27,8 @@ use Rattle.channel.specs.Control.{controlWritten}
 use Rattle.channel.specs.Events.{dataWritten, dataRead, transmitTick, receiveTick, linesSet}
 use Rattle.chip.specs.declared.Chip.{Chip}
 use Rattle.chip.specs.declared.Outcome.{Outcome}
-use Rattle.chip.specs.Interrupts.{pendingOf, serviceOf, inService, acknowledge, reti}
-use Rattle.chip.specs.Chip.{refused, byChannel, inChannel, serviceBy, controlWriteA, controlWrite}
+use Rattle.chip.specs.Interrupts.{pendingOf, inService, acknowledge, reti}
+use Rattle.chip.specs.Chip.{refused, byChannel, inChannel, controlWriteA, controlWriteB, controlWrite}
 use Rattle.chip.specs.Chip.{controlReadCall, dataWriteIn, dataWriteCall, dataReadCall, transmitCall}
 use Rattle.chip.specs.Chip.{onLevel, receiveIn, receiveCall, linesIn, linesCall}
 use Rattle.chip.specs.Event.{Event, HardReset, ControlWrite, ControlRead, DataWrite, DataRead}
@@ -152,11 +152,11 @@ written-kept f t k c s v q =
 
 write-kept : {X : Type 0} (f : Part X) (t : Test) → Keeps f t → (w : Which) (c : Chip) (ch v : ℕ)
     → quietBy t w c (ControlWrite ch v) ≡ true → KeptBy f w c (controlWrite c ch v)
-unfolding controlWrite controlWriteA
+unfolding controlWrite controlWriteA controlWriteB
 write-kept f t k A c ch v q =
     by-channel (KeptBy f A c) c ch refl
-    (λ e. written-kept f t k (inService c (serviceBy c v) .a) channels.A v
-    (or-right (here A ch) (writeBy t (c .a) v) q e)) (λ e. refl)
+    (λ e. written-kept f t k (c .a) channels.A v (or-right (here A ch) (writeBy t (c .a) v) q e))
+    (λ e. refl)
 write-kept f t k B c ch v q =
     by-channel (KeptBy f B c) c ch refl (λ e. refl)
     (λ e. written-kept f t k (c .b) channels.B v (or-right (here B ch) (writeBy t (c .b) v) q e))
@@ -213,5 +213,5 @@ quiet-kept f t k w c (SetLines ch dcd cts) q =
     call-kept f w c ch (λ x. linesIn x dcd cts)
     (λ e. lines-kept f t k (chan w c) dcd cts
     (or-right (here w ch) (t .lines (chan w c) (onLevel dcd) (onLevel cts)) q e))
-quiet-kept f t k w c Acknowledge q = service-kept f w c (acknowledged (pendingOf c) (serviceOf c))
-quiet-kept f t k w c Reti q = service-kept f w c (ended (serviceOf c))
+quiet-kept f t k w c Acknowledge q = service-kept f w c (acknowledged (pendingOf c) (c .service))
+quiet-kept f t k w c Reti q = service-kept f w c (ended (c .service))

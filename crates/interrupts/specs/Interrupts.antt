@@ -25,6 +25,9 @@ withSource s k t =
 abbrev pub six : Sources → Sources → Six
 six a b = record { a = a; b = b }
 
+abbrev pub noSix : Six
+noSix = six noSources noSources
+
 -- Priority
 
 -- "Priority: A receive, transmit, external, then B." A source's level: 0 is A's receive,

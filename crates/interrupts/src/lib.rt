@@ -1,7 +1,7 @@
 // 01, Interrupts: a channel's sources, their priority, acknowledge and RETI. It knows no channel and no chip: which of the six sources are pending
 // and which in service is told. Assumes nothing.
 ghost use mathlib.Core.Path.{_≡_};
-ghost use Rattle.interrupts.specs.Interrupts.{noSources, withSource, highest, anyOf, withLevel, mayTake, acknowledged, ended};
+ghost use Rattle.interrupts.specs.Interrupts.{noSources, withSource, noSix, highest, anyOf, withLevel, mayTake, acknowledged, ended};
 
 // The level of a source: 0 is A's receive, 5 B's external. Below these: none.
 const NO_LEVEL: u8 = 6;
@@ -54,6 +54,14 @@ impl Sources {
 }
 
 impl Six {
+    // No source of either channel.
+    pub fn none() -> Six
+        ensures { λ r. ⌜ r ≡ noSix ⌝ }
+    {
+        let n = Sources::none();
+        Six { a: n, b: n }
+    }
+
     // The level of the highest of these sources.
     pub fn highest(self) -> u8
         ensures { λ r. ⌜ r ≡ highest self ⌝ }

@@ -7,10 +7,10 @@ use Prim.Native.Nat.{ℕ}
 use Rattle.channel.specs.declared.Answer.{Answer}
 use Rattle.channel.specs.declared.Channel.{Channel}
 use Rattle.channel.specs.Answer.{answerValue}
-use Rattle.channel.specs.Channel.{withService}
 use Rattle.channel.specs.Control.{rr0, rr1Now}
 use Rattle.channel.specs.Events.{dataRead, transmitTick}
 use Rattle.chip.specs.declared.Chip.{Chip}
+use Rattle.chip.specs.Interrupts.{inService}
 use Rattle.chip.specs.Event.{Event, ControlWrite, ControlRead, DataWrite, DataRead}
 use Rattle.chip.specs.Event.{Transmit, Receive, SetLines}
 
@@ -45,9 +45,6 @@ Same is was =
 abbrev pub SameChip : Chip → Chip → Type 0
 SameChip is was = Same (is .a) (was .a) × Same (is .b) (was .b)
 
--- a channel as it was, but for its sources in service
-abbrev pub ButService : Channel → Channel → Type 0
-ButService is was = is ≡ withService was (is .service)
-
+-- a chip as it was, but for its sources in service
 abbrev pub ServiceAlone : Chip → Chip → Type 0
-ServiceAlone is was = ButService (is .a) (was .a) × ButService (is .b) (was .b)
+ServiceAlone is was = is ≡ inService was (is .service)

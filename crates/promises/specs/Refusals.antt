@@ -9,7 +9,7 @@ use Rattle.queue.specs.Queue.{waits}
 use Rattle.interrupts.specs.Interrupts.{mayTake}
 use Rattle.settings.specs.Settings.{notBuilt}
 use Rattle.chip.specs.declared.Chip.{Chip}
-use Rattle.chip.specs.Interrupts.{pendingOf, serviceOf}
+use Rattle.chip.specs.Interrupts.{pendingOf}
 use Rattle.chip.specs.Event.{Event, HardReset, ControlWrite, ControlRead, DataWrite, DataRead}
 use Rattle.chip.specs.Event.{Transmit, Receive, SetLines, Acknowledge, Reti}
 
@@ -39,7 +39,7 @@ settingNotBuilt c ch v = (3, eqb (pointerOf c ch) 4 && notBuilt v)
 -- 4: "acknowledge with no pending source above all those in service"; Laws/Priority.antt has it
 -- in just these words
 abbrev pub nothingAbove : Chip → Row
-nothingAbove c = (4, not (mayTake (pendingOf c) (serviceOf c)))
+nothingAbove c = (4, not (mayTake (pendingOf c) (c .service)))
 
 -- 10 (02, P5): "data read with nothing waiting"
 abbrev pub waitsIn : Chip → ℕ → Bool

@@ -5,8 +5,8 @@ ghost use Rattle.queue.specs.Queue.{empty, pushed, taken, oldest, waits,
 
 // The entries, oldest first; count of them wait. parity and overrun are RR1's latches D4 and D5.
 pub struct Queue {
-    pub entries: [Entry; 3],
     pub count: u8,
+    pub entries: [Entry; 3],
     pub parity: bool,
     pub overrun: bool,
 }

@@ -5,7 +5,7 @@ use Prim.Native.Nat.{ℕ}
 use lib.Dec.{eqb}
 use Rattle.common.specs.Choice.{if_then_else_}
 use Rattle.interrupts.specs.declared.Six.{Six}
-use Rattle.interrupts.specs.Interrupts.{six, highest, mayTake, acknowledged, ended}
+use Rattle.interrupts.specs.Interrupts.{noSources, six, highest, mayTake, acknowledged, ended}
 use Rattle.vector.specs.declared.Special.{Special}
 use Rattle.vector.specs.Vector.{vectorOf, ackedBy}
 use Rattle.settings.specs.Settings.{commandIn, statusAffects}
@@ -13,20 +13,29 @@ use Rattle.channel.specs.declared.Channel.{Channel}
 use Rattle.channel.specs.Events.{specialWaits, pendingIn}
 use Rattle.reading.specs.declared.Taking.{Taking}
 
--- The six sources: those that are pending, and those in service
+-- The six sources: those that are pending, and those in service under a control write
 
 abbrev pub pendingBoth : Channel → Channel → Six
 pendingBoth a b = six (pendingIn a) (pendingIn b)
 
-abbrev pub serviceBoth : Channel → Channel → Six
-serviceBoth a b = six (a .service) (b .service)
+-- the write goes to WR0, with this command
+abbrev pub commands : Channel → ℕ → ℕ → Bool
+commands c v k = eqb (c .pointer) 0 && eqb (commandIn v) k
 
--- WR0's command "7 as RETI (A only, none in B)": those in service under A's write
+-- "7 as RETI (A only, none in B)"
 abbrev pub endsService : Channel → ℕ → Bool
-endsService a v = eqb (a .pointer) 0 && eqb (commandIn v) 7
+endsService a v = commands a v 7
 
-abbrev pub serviceUnder : Channel → Channel → ℕ → Six
-serviceUnder a b v = if endsService a v then ended (serviceBoth a b) else serviceBoth a b
+-- "A channel reset .. ends that channel's pending and in-service sources"
+abbrev pub resets : Channel → ℕ → Bool
+resets c v = commands c v 3
+
+abbrev pub serviceUnderA : Channel → Six → ℕ → Six
+serviceUnderA a s v =
+    if endsService a v then ended s else (if resets a v then six noSources (s .b) else s)
+
+abbrev pub serviceUnderB : Channel → Six → ℕ → Six
+serviceUnderB b s v = if resets b v then six (s .a) noSources else s
 
 -- What is read and taken of them
 

@@ -6,6 +6,7 @@ use crate::sources::special_waits;
 use channel::Answered;
 use channel::Channel;
 use interrupts::Six;
+use interrupts::Sources;
 use interrupts::acknowledge;
 use interrupts::may_take;
 use settings::command_in;
@@ -17,7 +18,8 @@ ghost use mathlib.Core.Path.{_≡_};
 ghost use mathlib.Core.Bool.{false};
 ghost use Rattle.interrupts.specs.Interrupts.{anyOf};
 ghost use Rattle.channel.specs.Control.{controlRead};
-ghost use Rattle.reading.specs.Both.{pendingBoth, serviceBoth, serviceUnder, specialBoth, vectorAt, vectorBoth, taking};
+ghost use Rattle.reading.specs.Both.{pendingBoth, commands, serviceUnderA, serviceUnderB};
+ghost use Rattle.reading.specs.Both.{specialBoth, vectorAt, vectorBoth, taking};
 
 pub fn pending_in_both(a: Channel, b: Channel) -> Six
     ensures { λ r. ⌜ r ≡ pendingBoth a b ⌝ }
@@ -28,21 +30,32 @@ pub fn pending_in_both(a: Channel, b: Channel) -> Six
     }
 }
 
-pub fn service_in_both(a: Channel, b: Channel) -> Six
-    ensures { λ r. ⌜ r ≡ serviceBoth a b ⌝ }
+// The control write goes to WR0, with this command.
+fn commands(c: Channel, v: u8, k: u8) -> bool
+    ensures { λ r. ⌜ r ≡ commands c v k ⌝ }
 {
-    let x = a.service;
-    let y = b.service;
-    Six { a: x, b: y }
+    (c.pointer == 0) & (command_in(v) == k)
 }
 
-// Those in service under A's control write: WR0's command 7 ends one.
-pub fn service_under(a: Channel, b: Channel, v: u8) -> Six
-    ensures { λ r. ⌜ r ≡ serviceUnder a b v ⌝ }
+// Those in service under A's control write: WR0's command 7 ends one, and a channel reset those of A.
+pub fn service_under_a(a: Channel, mut s: Six, v: u8) -> Six
+    ensures { λ r. ⌜ r ≡ serviceUnderA a s v ⌝ }
 {
-    let s = service_in_both(a, b);
-    if (a.pointer == 0) & (command_in(v) == Channel::END_SERVICE) {
+    if commands(a, v, Channel::END_SERVICE) {
         return s.reti();
+    }
+    if commands(a, v, Channel::CHANNEL_RESET) {
+        s.a = Sources::none();
+    }
+    s
+}
+
+// And under B's.
+pub fn service_under_b(b: Channel, mut s: Six, v: u8) -> Six
+    ensures { λ r. ⌜ r ≡ serviceUnderB b s v ⌝ }
+{
+    if commands(b, v, Channel::CHANNEL_RESET) {
+        s.b = Sources::none();
     }
     s
 }
@@ -89,14 +102,19 @@ pub fn control_read_b(a: Channel, b: Channel) -> Answered
     control_read(b, false, rr2(a, b))
 }
 
-// Acknowledge.
-pub fn acknowledging(a: Channel, b: Channel) -> Taking
-    ensures { λ r. ⌜ r ≡ taking (pendingBoth a b) (serviceBoth a b) (vectorBoth a b) ⌝ }
+// Acknowledge, with these in service.
+pub fn acknowledging(a: Channel, b: Channel, s: Six) -> Taking
+    ensures { λ r. ⌜ r ≡ taking (pendingBoth a b) s (vectorBoth a b) ⌝ }
 {
     let p = pending_in_both(a, b);
-    let s = service_in_both(a, b);
+    if may_take(p, s) {
+        return Taking {
+            acked: Acked::Vector(vector_at(a, b, p.highest())),
+            service: acknowledge(p, s),
+        };
+    }
     Taking {
-        acked: Acked::by(may_take(p, s), vector_at(a, b, p.highest())),
-        service: acknowledge(p, s),
+        acked: Acked::NothingWaits,
+        service: s,
     }
 }

@@ -71,6 +71,10 @@ pub record Told (happens : Happens) : Type 0 where
   pub service-ended :
       refusal happens (served 0 ++ reset ++ set 0 1 0b1 ++ (SetLines 0 0 0 ∷ [])) Acknowledge ≡ 0
   pub service-of-b : refusal happens (served 1 ++ reset) Acknowledge ≡ 4
+  pub service-ended-in-b :
+      refusal happens
+      (served 1 ++ command 1 channelReset ++ set 1 1 0b1 ++ (SetLines 1 0 0 ∷ [])) Acknowledge ≡ 0
+  pub service-of-a : refusal happens (served 0 ++ command 1 channelReset) Acknowledge ≡ 4
   -- "unlatches external status", and latches nothing itself; the lines are as they were
   pub unlatched : reads happens ((SetLines 0 1 1 ∷ []) ++ reset ++ set 0 1 0b1) 0 0 ≡ 0x6C
   pub nothing-latched :
@@ -102,6 +106,8 @@ told = record {
   transmit-ended = refl;
   service-ended = refl;
   service-of-b = refl;
+  service-ended-in-b = refl;
+  service-of-a = refl;
   unlatched = refl;
   nothing-latched = refl;
   no-pointer = refl;

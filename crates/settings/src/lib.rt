@@ -18,14 +18,14 @@ ghost use Rattle.settings.specs.Settings.{lengthOf, stopsOf, formatOf, s
 
 // WR1 to WR7 as they were written; WR2 in channel B alone. The mode is what the last WR4 chose, none since a reset.
 pub struct Registers {
-    pub wr1: u8,
-    pub wr2: u8,
-    pub wr3: u8,
-    pub wr4: u8,
-    pub wr5: u8,
-    pub wr6: u8,
-    pub wr7: u8,
     pub mode: Mode,
+    pub wr7: u8,
+    pub wr6: u8,
+    pub wr5: u8,
+    pub wr4: u8,
+    pub wr3: u8,
+    pub wr2: u8,
+    pub wr1: u8,
 }
 
 // The two inputs of a channel beside its line; true is on.

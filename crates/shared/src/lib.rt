@@ -10,8 +10,8 @@ ghost use Rattle.shared.specs.Shared.{sharedAtReset, filled, emptied, la
 // latch: Underrun/EOM, RR0 D6.
 pub struct Shared {
     pub buffer: u8,
-    pub full: bool,
     pub latch: bool,
+    pub full: bool,
     pub check: u16,
 }
 

@@ -30,8 +30,9 @@ use Rattle.channel.specs.Control.{setWr4, setRegister, controlWritten, rr0}
 use Rattle.channel.specs.Events.{dataRead, transmitTick, receiveTick, linesSet}
 use Rattle.chip.specs.declared.Chip.{Chip}
 use Rattle.chip.specs.declared.Outcome.{Outcome}
-use Rattle.chip.specs.Interrupts.{pendingOf, serviceOf, inService, acknowledge, reti}
-use Rattle.chip.specs.Chip.{serviceBy, controlWriteA, controlWrite, controlReadCall, dataWriteCall}
+use Rattle.chip.specs.Interrupts.{pendingOf, inService, acknowledge, reti}
+use Rattle.chip.specs.Chip.{controlWriteA, controlWriteB, controlWrite}
+use Rattle.chip.specs.Chip.{controlReadCall, dataWriteCall}
 use Rattle.chip.specs.Chip.{dataReadCall, transmitCall, receiveCall, linesCall}
 use Rattle.chip.specs.Event.{Event, HardReset, ControlWrite, ControlRead, DataWrite, DataRead}
 use Rattle.chip.specs.Event.{Transmit, Receive, SetLines, Acknowledge, Reti}
@@ -198,13 +199,13 @@ pub event-shown : (w : Which) (c : Chip) (e : Event) → latchOf w c ≡ true �
     → latchOf w (happens c e .chip) ≡ true
     → Shows (chan w (happens c e .chip) .status)
 unfolding
-    controlWrite controlWriteA controlReadCall dataWriteCall dataReadCall dataRead
+    controlWrite controlWriteA controlWriteB controlReadCall dataWriteCall dataReadCall dataRead
     transmitCall transmitTick receiveCall receiveTick linesCall linesSet acknowledge reti
 event-shown A c HardReset l h = λ z e. void e
 event-shown B c HardReset l h = λ z e. void e
 event-shown A c (ControlWrite ch v) l h =
     by-channel (ShownIn A) c ch (λ z. h)
-    (λ e. control-shown (inService c (serviceBy c v) .a) channels.A v l h)
+    (λ e. control-shown (c .a) channels.A v l h)
     (λ e z. h)
 event-shown B c (ControlWrite ch v) l h =
     by-channel (ShownIn B) c ch (λ z. h)
@@ -239,8 +240,8 @@ event-shown B c (SetLines ch dcd cts) l h =
     by-channel (ShownIn B) c ch (λ z. h) (λ e z. h)
     (λ e. if-elim AnsweredShown (leb 2 dcd || leb 2 cts) (λ z. h) (settled-shown (c .b) _ h))
 event-shown w c Acknowledge l h =
-    λ z. service-shows w c (acknowledged (pendingOf c) (serviceOf c)) h
-event-shown w c Reti l h = λ z. service-shows w c (ended (serviceOf c)) h
+    λ z. service-shows w c (acknowledged (pendingOf c) (c .service)) h
+event-shown w c Reti l h = λ z. service-shows w c (ended (c .service)) h
 
 -- Reset External/Status shows a latch that is set, whatever was shown before
 afresh-seen : (c : Channel) → LatchSet c → Shows (afresh (c .status) (liveOf c))
@@ -263,8 +264,6 @@ pub reset-seen : (w : Which) (c : Chip) → chan w c .pointer ≡ 0 → latchOf 
     → let d =
     chan w (happens c (ControlWrite (number w) resetStatus) .chip) in (d .pointer ≡ 0)
     × LatchSet d × StatusShows d
-unfolding controlWrite controlWriteA
-reset-seen A c p l =
-    let x : eqb (c .a .pointer) 0
-    ≡ true = ap (λ (n : ℕ). eqb n 0) p in rw x (reset-channel (c .a) channels.A p l)
+unfolding controlWrite controlWriteA controlWriteB
+reset-seen A c p l = reset-channel (c .a) channels.A p l
 reset-seen B c p l = reset-channel (c .b) channels.B p l

@@ -21,7 +21,7 @@ use Rattle.channel.specs.Channel.{withSender, withStatus, settled}
 use Rattle.channel.specs.Answer.{answerNumber}
 use Rattle.chip.specs.declared.Chip.{Chip}
 use Rattle.chip.specs.declared.Outcome.{Outcome}
-use Rattle.chip.specs.Interrupts.{chip}
+use Rattle.chip.specs.Interrupts.{withA}
 use Rattle.chip.specs.Chip.{outcome}
 use Rattle.chip.specs.Event.{Event, Transmit, step}
 

@@ -19,8 +19,7 @@ use Rattle.channel.specs.declared.Channel.{Channel}
 use Rattle.channel.specs.Channel.{withRegisters, withReceiver, withPointer, liveOf, settled}
 use Rattle.channel.specs.Control.{setWr3, setRegister, controlWritten}
 use Rattle.chip.specs.declared.Chip.{Chip}
-use Rattle.chip.specs.Chip.{serviceBy, controlWriteA, controlWrite}
-use Rattle.chip.specs.Interrupts.{inService}
+use Rattle.chip.specs.Chip.{controlWriteA, controlWriteB, controlWrite}
 use Rattle.stories.specs.Story.{Which, A, B, chan}
 use Rattle.terminals.specs.Statement.{HuntBegun, HuntAgain}
 use Rattle.terminals.specs.Shown.{d4-is}
@@ -97,10 +96,10 @@ begun-by w c d x v e m r q s = record {
 }
 
 pub hunt-again : HuntAgain
-unfolding controlWrite controlWriteA receivingOf
+unfolding controlWrite controlWriteA controlWriteB receivingOf
 hunt-again A c v m p h =
-    let x = inService c (serviceBy c v) .a in
-    begun-by A c (controlWrite c 0 v .chip) x v (written-is x channels.A v m p h) m refl refl refl
+    begun-by A c (controlWrite c 0 v .chip) (c .a) v (written-is (c .a) channels.A v m p h) m
+    refl refl refl
 hunt-again B c v m p h =
     begun-by B c (controlWrite c 1 v .chip) (c .b) v (written-is (c .b) channels.B v m p h) m
     refl refl refl

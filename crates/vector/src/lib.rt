@@ -1,7 +1,7 @@
 // 01, Interrupts: the vector of a source, and what an acknowledge answers. The source's level is crate interrupts' number for it. Assumes nothing.
 use common::Refusal;
 ghost use mathlib.Core.Path.{_≡_};
-ghost use Rattle.vector.specs.Vector.{codeOf, vectorOf, ackedBy, ackedNumber, ackedValue};
+ghost use Rattle.vector.specs.Vector.{codeOf, vectorOf, ackedNumber, ackedValue};
 
 // Whether A's receive is special, and B's.
 pub struct Special {
@@ -51,16 +51,6 @@ pub fn vector(wr2: u8, affected: bool, level: u8, special: Special) -> u8
 }
 
 impl Acked {
-    // The answer with this vector, if a source may be taken.
-    pub fn by(taken: bool, vector: u8) -> Acked
-        ensures { λ r. ⌜ r ≡ ackedBy taken vector ⌝ }
-    {
-        if taken {
-            return Acked::Vector(vector);
-        }
-        Acked::NothingWaits
-    }
-
     // The paper's number of the refusal, 0 for none.
     pub fn number(self) -> u8
         ensures { λ r. ⌜ r ≡ ackedNumber self ⌝ }

@@ -10,7 +10,7 @@ use Rattle.settings.specs.Settings.{commandIn}
 use Rattle.channel.specs.declared.Answer.the-variants.{Refused}
 use Rattle.channel.specs.Channel.{withTransmit}
 use Rattle.channel.specs.Events.{pendingIn}
-use Rattle.chip.specs.Interrupts.{serviceOf, inService}
+use Rattle.chip.specs.Interrupts.{inService}
 use Rattle.chip.specs.Chip.{outcome}
 use Rattle.chip.specs.Event.{Reti, step}
 use Rattle.tales.specs.Tale.{Happens, telling}
@@ -30,7 +30,7 @@ acknowledgeEndsTransmit-refused t = other-number (t .left-pending) refl
 -- an acknowledge gives its vector and leaves no source in service
 abbrev putsNothingInService : Happens
 putsNothingInService =
-    but (λ was e is. if isAcknowledge e then inService is (serviceOf was) else is)
+    but (λ was e is. if isAcknowledge e then inService is (was .service) else is)
 
 pub putsNothingInService-refused : Told putsNothingInService → ⊥
 unfolding telling
@@ -39,7 +39,7 @@ putsNothingInService-refused t = other-number (t .not-twice) refl
 -- while any source is in service every acknowledge is refused
 abbrev takesNothingAboveAService : Happens
 takesNothingAboveAService c e =
-    if isAcknowledge e && anyOf (serviceOf c)
+    if isAcknowledge e && anyOf (c .service)
     then outcome (Refused refusal.NothingWaits) c
     else step c e
 
@@ -51,7 +51,7 @@ takesNothingAboveAService-refused t = other-number (t .above-taken) refl
 abbrev serviceInALetsBThrough : Happens
 serviceInALetsBThrough c e =
     if isAcknowledge e && not (anyOf (six (pendingIn (c .a)) noSources))
-    then step (inService c (six noSources (c .b .service))) e
+    then step (inService c (six noSources (c .service .b))) e
     else step c e
 
 pub serviceInALetsBThrough-refused : Told serviceInALetsBThrough → ⊥
@@ -71,7 +71,7 @@ abbrev command7EndsSourcesOfAAlone : Happens
 command7EndsSourcesOfAAlone =
     but (λ was e is.
     if isCommand 0 7 (was .a) e
-    then inService is (six (is .a .service) (was .b .service))
+    then inService is (six (is .service .a) (was .service .b))
     else is)
 
 pub command7EndsSourcesOfAAlone-refused : Told command7EndsSourcesOfAAlone → ⊥

@@ -10,7 +10,7 @@ use Rattle.settings.specs.Settings.{receiveMode}
 use Rattle.channel.specs.declared.Answer.the-variants.{Gave}
 use Rattle.channel.specs.Answer.{answerValue}
 use Rattle.channel.specs.Events.{pendingIn}
-use Rattle.chip.specs.Interrupts.{chip, pendingOf, serviceOf, anyPending, rr2}
+use Rattle.chip.specs.Interrupts.{withA, pendingOf, anyPending, rr2}
 use Rattle.chip.specs.Event.{step}
 use Rattle.tales.specs.Tale.{Happens, telling}
 use Rattle.tales.specs.Kind.{isAcknowledge, isRead}
@@ -32,7 +32,7 @@ rr2IsReadInA-refused t = other-number (t .no-rr2-in-a) refl
 abbrev bReceiveAboveAExternal : Happens
 bReceiveAboveAExternal c e =
     if isAcknowledge e && pendingIn (c .b) .receive
-    then step (chip (withLatched (c .a) false) (c .b)) e
+    then step (withA c (withLatched (c .a) false)) e
     else step c e
 
 pub bReceiveAboveAExternal-refused : Told bReceiveAboveAExternal → ⊥
@@ -84,7 +84,7 @@ showsD1InB-refused t = other-number (t .no-d1-in-b) refl
 abbrev d1FallsInService : Happens
 d1FallsInService =
     saying (λ c e w.
-    let taken = anyPending c && not (mayTake (pendingOf c) (serviceOf c)) in
+    let taken = anyPending c && not (mayTake (pendingOf c) (c .service)) in
     if isRead 0 e && (eqb (c .a .pointer) 0 && taken) then Gave (answerValue w - 2) else w)
 
 pub d1FallsInService-refused : Told d1FallsInService → ⊥

@@ -6,7 +6,7 @@ use Prim.Native.Nat.{ℕ}
 use lib.Dec.{eqb}
 use borrow.Author.Tests.{eqb-true}
 use Rattle.common.specs.Mode.{inSdlc}
-use Rattle.common.specs.Tools.{by-test, both-left, both-right, not-true, and-false}
+use Rattle.common.specs.Tools.{by-test, both-left, both-right, not-true}
 use Rattle.common.specs.declared.Mode.{Mode}
 use Rattle.common.specs.declared.Mode.the-variants.{Sdlc}
 use Rattle.line.specs.Bits.{odd, oneIf}
@@ -38,11 +38,11 @@ use Rattle.channel.specs.Control.{setRegister, controlWritten}
 use Rattle.channel.specs.Events.{transmitTick}
 use Rattle.chip.specs.declared.Chip.{Chip}
 use Rattle.interrupts.specs.declared.Six.{Six}
-use Rattle.interrupts.specs.Interrupts.{ended}
-use Rattle.chip.specs.Interrupts.{chip, serviceOf, inService}
-use Rattle.chip.specs.Chip.{endsService, inA, controlWrite, controlWriteA, controlReadCall}
+use Rattle.reading.specs.Both.{serviceUnderA}
+use Rattle.chip.specs.Interrupts.{chip}
+use Rattle.chip.specs.Chip.{controlWrite, controlWriteA, controlReadCall}
 use Rattle.chip.specs.Chip.{dataWriteCall, transmitCall}
-use Rattle.feed.specs.Laws.Feeding.{if-true, if-false}
+use Rattle.feed.specs.Laws.Feeding.{if-true}
 use Rattle.settings.specs.Bytes.{sendAbort, channelReset, presetSent, clearUnderrun, sdlcMode}
 use Rattle.settings.specs.Bytes.{sendChecked}
 use Rattle.drive.specs.Drive.{controlA, lookA, writeA, tickA, bitA, canSend}
@@ -110,20 +110,18 @@ module _ {c : Chip} {s : Framer} (h : Stands c s) where
 
 -- WR0
 
--- a write of WR0 that is no RETI
 wr0-a : (a : Channel) (v : ℕ) → a .pointer ≡ 0 → controlWritten a A v ≡ answered Done (writeWr0 a v)
 unfolding controlWritten
 wr0-a a v p = if-true _ _ (ap (λ (n : ℕ). eqb n 0) p)
 
-wr0 : (c : Chip) (v : ℕ) → c .a .pointer ≡ 0 → eqb (commandIn v) 7 ≡ false
-    → controlA c v ≡ chip (writeWr0 (c .a) v) (c .b)
+abbrev serviceBehind : Chip → ℕ → Six
+serviceBehind c v = serviceUnderA (c .a) (c .service) v
+
+wr0 : (c : Chip) (v : ℕ) → c .a .pointer ≡ 0
+    → controlA c v ≡ chip (writeWr0 (c .a) v) (c .b) (serviceBehind c v)
 unfolding controlA controlWrite controlWriteA
-wr0 c v p e =
-    let here = eqb (c .a .pointer) 0 in
-    let no : endsService (c .a) v ≡ false = ap (λ (b : Bool). here && b) e ∙ and-false here in
-    ap (λ (x : Six). inA (inService c x) (controlWritten (inService c x .a) A v) .chip)
-    (if-false (ended (serviceOf c)) (serviceOf c) no)
-    ∙ ap (λ (r : Answered). chip (r .channel) (c .b)) (wr0-a (c .a) v p)
+wr0 c v p =
+    ap (λ (r : Answered). chip (r .channel) (c .b) (serviceBehind c v)) (wr0-a (c .a) v p)
 
 abbrev withShared : Framer → Shared → Framer
 withShared s k = framer (s .unit) (s .insertion) k
@@ -136,7 +134,7 @@ module _ {c : Chip} {s : Framer} (h : Stands c s) where
   pub preset-stands : Stands (controlA c presetSent) (withShared s (checkSet (s .shared) ones))
   unfolding writeWr0 commandStep presetStep commanded preset settled
   preset-stands =
-      rw (wr0 c presetSent (h .pointer) refl)
+      rw (wr0 c presetSent (h .pointer))
       (record {
         pointer = refl;
         good = h .good;
@@ -150,7 +148,7 @@ module _ {c : Chip} {s : Framer} (h : Stands c s) where
   pub clear-stands : Stands (controlA c clearUnderrun) (withShared s (cleared (s .shared)))
   unfolding writeWr0 commandStep presetStep commanded preset settled
   clear-stands =
-      rw (wr0 c clearUnderrun (h .pointer) refl)
+      rw (wr0 c clearUnderrun (h .pointer))
       (record {
         pointer = refl;
         good = h .good;
@@ -164,7 +162,7 @@ module _ {c : Chip} {s : Framer} (h : Stands c s) where
       let cut : framerOf (aborted g (c .a .sender)) ≡ cutShort s =
       ap framerOf (abort-sdlc g (c .a .sender) (h .good .sdlc-mode))
       ∙ ap (abortedBy (g .framing)) (h .sends) ∙ abort-cuts (g .framing) s (h .good .on) a in
-      rw (wr0 c sendAbort (h .pointer) refl)
+      rw (wr0 c sendAbort (h .pointer))
       (record { pointer = refl; good = h .good; sends = cut })
 
 -- A channel that is set up
@@ -172,13 +170,13 @@ module _ {c : Chip} {s : Framer} (h : Stands c s) where
 abbrev afterSetUp : Framer
 afterSetUp = framer Mark notCounted (shared 0 false true ones)
 
-set-up-reset : (l : Lines) (b : Channel)
-    → let inMode = controlA (controlA (chip (resetWith l) b) 4) sdlcMode in
+set-up-reset : (l : Lines) (b : Channel) (s : Six)
+    → let inMode = controlA (controlA (chip (resetWith l) b s) 4) sdlcMode in
     Stands (controlA (controlA inMode 5) sendChecked) afterSetUp
 unfolding
     controlA controlWrite controlWriteA controlWritten writeWr0 commandStep presetStep commanded
     preset settled setRegister setWr4 notBuilt modeOf sendingOf
-set-up-reset l b = record {
+set-up-reset l b s = record {
   pointer = refl;
   good = record { sdlc-mode = refl; on = refl; included = refl; no-break = refl };
   sends = refl;
@@ -186,7 +184,9 @@ set-up-reset l b = record {
 
 pub set-up-stands : (c : Chip) → c .a .pointer ≡ 0 → Stands (setUp c) afterSetUp
 unfolding setUp writeWr0
-set-up-stands c p = rw (wr0 c channelReset p refl) (set-up-reset (c .a .lines) (c .b))
+set-up-stands c p =
+    rw (wr0 c channelReset p)
+    (set-up-reset (c .a .lines) (c .b) (serviceBehind c channelReset))
 
 -- Before a frame
 

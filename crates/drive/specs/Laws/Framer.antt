@@ -28,7 +28,7 @@ use Rattle.channel.specs.Channel.{withSender, withStatus, withTransmit, liveOf,
 use Rattle.channel.specs.Events.{transmitTick}
 use Rattle.channel.specs.Laws.Still.{noticed-same}
 use Rattle.chip.specs.declared.Chip.{Chip}
-use Rattle.chip.specs.Interrupts.{chip}
+use Rattle.chip.specs.Interrupts.{withA}
 use Rattle.chip.specs.Chip.{dataWriteCall, transmitCall}
 use Rattle.feed.specs.Feeding.{takesByte, Supplied, supply, afterTicks, ticksLine}
 use Rattle.drive.specs.Drive.{lookA, emptyA, writeA, tickA, bitA, Offered, offered, offer}
@@ -129,13 +129,13 @@ module _ (c : Chip) (p : c .a .pointer ≡ 0) (g : Good (sendingA c))
       let live = liveOf a in
       let latch = s .shared .latch in
       let after : Ticked → Chip = λ x.
-      chip (withStatus (withTransmit (withSender (channelWith a s) (x .sender))
+      withA c (withStatus (withTransmit (withSender (channelWith a s) (x .sender))
       ((not (s .shared .full) && on) || (x .loaded && on)))
       (noticed (noticed (a .status) live (withUnderrun live latch)) (withUnderrun live latch)
-      (withUnderrun live (x .sender .shared .latch)))) (c .b) in
+      (withUnderrun live (x .sender .shared .latch)))) in
       let put : Bool → Status → Chip = λ b x.
       let sent = withSender a (framerIn (a .sender) (t .framer)) in
-      chip (withTransmit (withStatus sent x) b) (c .b) in
+      withA c (withTransmit (withStatus sent x) b) in
       let full = tick-loads s in
       ap after (tick-good (sendingA c) (framerIn (a .sender) s) g)
       ∙ ap₂ put
@@ -213,7 +213,7 @@ own-framer c t f =
     let a = c .a in
     let on = transmitOn (a .registers .wr1) in
     let pending = not (a .sender .shared .full) && on in
-    ap (λ (x : Status). chip (withTransmit (withStatus a x) pending) (c .b))
+    ap (λ (x : Status). withA c (withTransmit (withStatus a x) pending))
     (noticed-same (a .status) (liveOf a))
-    ∙ ap (λ (b : Bool). chip (withTransmit a (not b && on)) (c .b)) f
-    ∙ ap (λ (b : Bool). chip (withTransmit a b) (c .b)) (sym t)
+    ∙ ap (λ (b : Bool). withA c (withTransmit a (not b && on))) f
+    ∙ ap (λ (b : Bool). withA c (withTransmit a b)) (sym t)

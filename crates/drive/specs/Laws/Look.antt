@@ -16,7 +16,7 @@ use Rattle.status.specs.Status.{shownBits}
 use Rattle.channel.specs.Channel.{withPointer, liveOf}
 use Rattle.channel.specs.Control.{rr0, readRegister}
 use Rattle.chip.specs.declared.Chip.{Chip}
-use Rattle.chip.specs.Interrupts.{chip, anyPending}
+use Rattle.chip.specs.Interrupts.{withA, anyPending}
 use Rattle.chip.specs.Chip.{controlReadCall}
 use Rattle.feed.specs.Laws.Feeding.{if-true}
 use Rattle.drive.specs.Drive.{lookA, emptyA}
@@ -84,4 +84,4 @@ d2 c p =
 
 pub look-same : (c : Chip) → c .a .pointer ≡ 0 → lookA c ≡ c
 unfolding lookA controlReadCall
-look-same c p = λ i. chip (withPointer (c .a) (sym p i)) (c .b)
+look-same c p = λ i. withA c (withPointer (c .a) (sym p i))

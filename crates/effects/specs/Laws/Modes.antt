@@ -47,7 +47,6 @@ changed-so c v = record {
   heard = refl;
   armed = refl;
   transmit = refl;
-  service = refl;
   lines = refl;
 }
 
@@ -60,7 +59,6 @@ kept-so c v = record {
   queue = refl;
   armed = refl;
   transmit = refl;
-  service = refl;
   lines = refl;
 }
 

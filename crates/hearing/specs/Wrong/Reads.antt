@@ -9,7 +9,7 @@ use Rattle.channel.specs.declared.Answer.the-variants.{Refused}
 use Rattle.channel.specs.Answer.{answerNumber, answerValue}
 use Rattle.channel.specs.Channel.{withQueue, withPointer, withArmed}
 use Rattle.chip.specs.declared.Chip.{Chip}
-use Rattle.chip.specs.Interrupts.{chip}
+use Rattle.chip.specs.Interrupts.{withA}
 use Rattle.chip.specs.Chip.{outcome}
 use Rattle.chip.specs.Event.{Event, step}
 use Rattle.tales.specs.Tale.{Happens, telling}
@@ -60,7 +60,7 @@ told10WhoseByteIsGone-refused t = other-number (t .letter-waits) refl
 abbrev emptyLookDisarms : Happens
 emptyLookDisarms =
     but (λ was e is.
-    if findsNothing was e then chip (withArmed (is .a) false) (is .b) else is)
+    if findsNothing was e then withA is (withArmed (is .a) false) else is)
 
 pub emptyLookDisarms-refused : Told emptyLookDisarms → ⊥
 unfolding telling
@@ -70,7 +70,7 @@ emptyLookDisarms-refused t = other-number (t .armed) refl
 abbrev emptyLookMovesThePointer : Happens
 emptyLookMovesThePointer =
     but (λ was e is.
-    if findsNothing was e then chip (withPointer (is .a) 0) (is .b) else is)
+    if findsNothing was e then withA is (withPointer (is .a) 0) else is)
 
 pub emptyLookMovesThePointer-refused : Told emptyLookMovesThePointer → ⊥
 unfolding telling
@@ -81,7 +81,7 @@ abbrev emptyLookClearsTheLatches : Happens
 emptyLookClearsTheLatches =
     but (λ was e is.
     if findsNothing was e
-    then chip (withQueue (is .a) (errorReset (is .a .queue))) (is .b)
+    then withA is (withQueue (is .a) (errorReset (is .a .queue)))
     else is)
 
 pub emptyLookClearsTheLatches-refused : Told emptyLookClearsTheLatches → ⊥

@@ -15,7 +15,7 @@ use Rattle.channel.specs.Channel.{settled}
 use Rattle.channel.specs.Control.{commanded, preset, commandStep, presetStep, writeWr0}
 use Rattle.channel.specs.Control.{controlWritten}
 use Rattle.chip.specs.declared.Chip.{Chip}
-use Rattle.chip.specs.Chip.{controlWriteA, controlWrite}
+use Rattle.chip.specs.Chip.{controlWriteA, controlWriteB, controlWrite}
 use Rattle.chip.specs.Event.{ControlWrite}
 use Rattle.stories.specs.Story.{Which, A, B, number, chan, happens}
 use Rattle.history.specs.Sending.Side.{sendingIn}
@@ -41,13 +41,13 @@ clear-left c s p = rw (at-zero c p) (record { sender = refl; settings = refl; po
 pub write-preset : (w : Which) (c : Chip) → chan w c .pointer ≡ 0
     → Left (chan w c) (chan w (happens c (ControlWrite (number w) presetSent) .chip))
     (checkPreset (modeIn (chan w c .registers)))
-unfolding controlWrite controlWriteA
-write-preset A c p = rw (at-zero (c .a) p) (preset-left (c .a) channels.A p)
+unfolding controlWrite controlWriteA controlWriteB
+write-preset A c p = preset-left (c .a) channels.A p
 write-preset B c p = preset-left (c .b) channels.B p
 
 pub write-clear : (w : Which) (c : Chip) → chan w c .pointer ≡ 0
     → Left (chan w c) (chan w (happens c (ControlWrite (number w) clearUnderrun) .chip))
     latchCleared
-unfolding controlWrite controlWriteA
-write-clear A c p = rw (at-zero (c .a) p) (clear-left (c .a) channels.A p)
+unfolding controlWrite controlWriteA controlWriteB
+write-clear A c p = clear-left (c .a) channels.A p
 write-clear B c p = clear-left (c .b) channels.B p

@@ -1,40 +1,24 @@
--- An event on B leaves A's channel as it was, all of it. An event on A leaves B's but for the
--- sources in service, since WR0's command 7, through A, ends the highest of both channels.
--- Acknowledge and RETI change nothing else either. Assumes nothing.
-use mathlib.Core.Path.{_≡_, refl}
-use Rattle.common.specs.Tools.{bool-or}
-use Rattle.interrupts.specs.declared.Sources.{Sources}
-use Rattle.queue.specs.Queue.{waits}
-use Rattle.channel.specs.declared.Channel.{Channel}
-use Rattle.channel.specs.Channel.{withService, liveOf}
-use Rattle.channel.specs.Control.{rr0, rr1Now}
-use Rattle.channel.specs.Events.{dataRead, transmitTick}
+-- An event on B leaves A's channel as it was, all of it, and A's sources in service; an event on A
+-- leaves B's channel. Acknowledge and RETI change the sources in service, and nothing else. (Which
+-- events on A end a source of B in service is told in crate effects.) Assumes nothing.
+use mathlib.Core.Path.{_≡_, refl, ap}
+use Rattle.interrupts.specs.declared.Six.{Six}
+use Rattle.common.specs.Tools.{if-elim}
 use Rattle.chip.specs.declared.Chip.{Chip}
 use Rattle.chip.specs.Interrupts.{acknowledge, reti}
-use Rattle.chip.specs.Chip.{controlWriteA, controlWrite, controlReadCall}
+use Rattle.chip.specs.Chip.{resets, controlWriteA, controlWriteB, controlWrite, controlReadCall}
 use Rattle.chip.specs.Chip.{dataWriteCall, dataReadCall, transmitCall, receiveCall, linesCall}
 use Rattle.chip.specs.Event.{Event, Acknowledge, Reti, step}
 use Rattle.promises.specs.Isolation.{On, control-write, control-read, data-write, data-read}
-use Rattle.promises.specs.Isolation.{transmit, receive, set-lines, nextRead, Same, SameChip}
-use Rattle.promises.specs.Isolation.{ButService, ServiceAlone}
+use Rattle.promises.specs.Isolation.{transmit, receive, set-lines, Same, SameChip}
+use Rattle.promises.specs.Isolation.{ServiceAlone}
 
--- The sources in service show in none of the four
-
-data-service : (c : Channel) (s : Sources) → nextRead (withService c s) ≡ nextRead c
-unfolding dataRead
-data-service c s = bool-or (waits (c .queue)) (λ e. rw (nextRead, e)) (λ e. rw (nextRead, e))
-
-service-same : (c : Channel) (s : Sources) → Same (withService c s) c
-unfolding transmitTick rr1Now rr0 liveOf
-service-same c s = (refl, data-service c s, refl, refl)
-
-same-but-service : (is was : Channel) → ButService is was → Same is was
-same-but-service is was e = rw e (service-same was (is .service))
-
--- An event on B leaves A's channel as it was
+-- An event on B leaves A's channel as it was, and A's sources in service
 
 pub b-leaves-a : {e : Event} (c : Chip) → On 1 e → step c e .chip .a ≡ c .a
-unfolding controlWrite controlReadCall dataWriteCall dataReadCall transmitCall receiveCall linesCall
+unfolding
+    controlWrite controlWriteB controlReadCall dataWriteCall dataReadCall transmitCall
+    receiveCall linesCall
 b-leaves-a c (control-write v) = refl
 b-leaves-a c control-read = refl
 b-leaves-a c (data-write v) = refl
@@ -43,9 +27,23 @@ b-leaves-a c transmit = refl
 b-leaves-a c (receive bit) = refl
 b-leaves-a c (set-lines dcd cts) = refl
 
--- An event on A leaves B's channel as it was, but for its sources in service
+pub b-leaves-a-served : {e : Event} (c : Chip) → On 1 e
+    → step c e .chip .service .a ≡ c .service .a
+unfolding
+    controlWrite controlWriteB controlReadCall dataWriteCall dataReadCall transmitCall
+    receiveCall linesCall
+b-leaves-a-served c (control-write v) =
+    if-elim (λ (s : Six). s .a ≡ c .service .a) (resets (c .b) v) refl refl
+b-leaves-a-served c control-read = refl
+b-leaves-a-served c (data-write v) = refl
+b-leaves-a-served c data-read = refl
+b-leaves-a-served c transmit = refl
+b-leaves-a-served c (receive bit) = refl
+b-leaves-a-served c (set-lines dcd cts) = refl
 
-pub a-leaves-b : {e : Event} (c : Chip) → On 0 e → ButService (step c e .chip .b) (c .b)
+-- An event on A leaves B's channel as it was
+
+pub a-leaves-b : {e : Event} (c : Chip) → On 0 e → step c e .chip .b ≡ c .b
 unfolding
     controlWrite controlWriteA controlReadCall dataWriteCall dataReadCall transmitCall
     receiveCall linesCall
@@ -63,21 +61,22 @@ pub events-on-b : {e : Event} (c : Chip) → On 1 e → Same (step c e .chip .a)
 events-on-b c o = rw (b-leaves-a c o) (refl, refl, refl, refl)
 
 pub events-on-a : {e : Event} (c : Chip) → On 0 e → Same (step c e .chip .b) (c .b)
-events-on-a {e} c o = same-but-service (step c e .chip .b) (c .b) (a-leaves-b c o)
+events-on-a c o = rw (a-leaves-b c o) (refl, refl, refl, refl)
 
 -- "interrupts .. are shared": acknowledge and RETI change the sources in service alone
 
 pub acknowledge-service : (c : Chip) → ServiceAlone (acknowledge c .chip) c
 unfolding acknowledge
-acknowledge-service c = (refl, refl)
+acknowledge-service c = refl
 
 pub reti-service : (c : Chip) → ServiceAlone (reti c) c
 unfolding reti
-reti-service c = (refl, refl)
+reti-service c = refl
 
 service-alone-same : (is was : Chip) → ServiceAlone is was → SameChip is was
 service-alone-same is was s =
-    (same-but-service (is .a) (was .a) (s .0), same-but-service (is .b) (was .b) (s .1))
+    rw (ap (λ (c : Chip). c .a) s, ap (λ (c : Chip). c .b) s)
+    ((refl, refl, refl, refl), (refl, refl, refl, refl))
 
 pub acknowledges : (c : Chip) → SameChip (step c Acknowledge .chip) c
 acknowledges c = service-alone-same (acknowledge c .chip) c (acknowledge-service c)

@@ -9,7 +9,7 @@ use Rattle.interrupts.specs.Priority.{SourceAbove}
 use Rattle.interrupts.specs.Laws.Priority.{taken-above, above-taken}
 use Rattle.channel.specs.Answer.{answerNumber}
 use Rattle.chip.specs.declared.Chip.{Chip}
-use Rattle.chip.specs.Interrupts.{pendingOf, serviceOf}
+use Rattle.chip.specs.Interrupts.{pendingOf}
 use Rattle.chip.specs.Event.{Acknowledge, step}
 use Rattle.promises.specs.Refusals.{nothingAbove, firstRow}
 use Rattle.promises.specs.Laws.Refusals.{refused-by-the-table}
@@ -17,15 +17,15 @@ use Rattle.promises.specs.Laws.Refusals.{refused-by-the-table}
 -- 4: "acknowledge with no pending source above all those in service"
 
 pub refused-none-above : (c : Chip) → answerNumber (step c Acknowledge .answer) ≡ 4
-    → SourceAbove (pendingOf c) (serviceOf c) → ⊥
+    → SourceAbove (pendingOf c) (c .service) → ⊥
 refused-none-above c e s =
-    let z : firstRow (nothingAbove c ∷ []) ≡ 0 = rw (above-taken (pendingOf c) (serviceOf c) s) in
+    let z : firstRow (nothingAbove c ∷ []) ≡ 0 = rw (above-taken (pendingOf c) (c .service) s) in
     let w = sym (refused-by-the-table c Acknowledge) ∙ e in
     omega arith
 
-pub none-above-refused : (c : Chip) → (SourceAbove (pendingOf c) (serviceOf c) → ⊥)
+pub none-above-refused : (c : Chip) → (SourceAbove (pendingOf c) (c .service) → ⊥)
     → answerNumber (step c Acknowledge .answer) ≡ 4
 none-above-refused c n =
     refused-by-the-table c Acknowledge
-    ∙ bool-or (mayTake (pendingOf c) (serviceOf c))
-    (λ e. absurd (n (taken-above (pendingOf c) (serviceOf c) e))) (λ e. rw e)
+    ∙ bool-or (mayTake (pendingOf c) (c .service))
+    (λ e. absurd (n (taken-above (pendingOf c) (c .service) e))) (λ e. rw e)

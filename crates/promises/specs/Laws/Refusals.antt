@@ -9,12 +9,12 @@ use native.Mathlib.Omega.{arith}
 use lib.Dec.{eqb, leb}
 use borrow.Author.Tests.{eqb-true, le-leb, ne-eqb}
 use Rattle.common.specs.Choice.{if_then_else_}
-use Rattle.common.specs.Tools.{if-elim, by-test, bool-or, both-left}
+use Rattle.common.specs.Tools.{if-elim, by-test, bool-or}
 use Rattle.common.specs.declared.Refusal.the-variants as refusal
 use Rattle.queue.specs.Queue.{waits}
 use Rattle.interrupts.specs.Interrupts.{mayTake, acknowledged}
 use Rattle.vector.specs.Vector.{ackedBy}
-use Rattle.settings.specs.Settings.{commandIn, notBuilt}
+use Rattle.settings.specs.Settings.{notBuilt}
 use Rattle.channel.specs.declared.Side.{Side}
 use Rattle.channel.specs.declared.Side.the-variants.{A, B}
 use Rattle.channel.specs.declared.Channel.{Channel}
@@ -26,9 +26,10 @@ use Rattle.channel.specs.Control.{controlWritten}
 use Rattle.channel.specs.Events.{dataRead, transmitTick}
 use Rattle.chip.specs.declared.Chip.{Chip}
 use Rattle.chip.specs.declared.Outcome.{Outcome}
-use Rattle.chip.specs.Interrupts.{chip, pendingOf, serviceOf, inService, rr2, acknowledge}
-use Rattle.chip.specs.Chip.{inA, inB, byChannel, inChannel, endsService, serviceBy}
-use Rattle.chip.specs.Chip.{controlWriteA, controlWrite, controlReadCall, dataWriteIn}
+use Rattle.chip.specs.Interrupts.{withA, withB, pendingOf, rr2, acknowledge}
+use Rattle.chip.specs.Chip.{inA, inB, byChannel, inChannel}
+use Rattle.chip.specs.Chip.{controlWriteA, controlWriteB, controlWrite, controlReadCall}
+use Rattle.chip.specs.Chip.{dataWriteIn}
 use Rattle.chip.specs.Chip.{dataWriteCall, dataReadCall, transmitCall}
 use Rattle.chip.specs.Chip.{receiveIn, receiveCall, linesIn, linesCall}
 use Rattle.chip.specs.Event.{Event, HardReset, ControlWrite, ControlRead, DataWrite, DataRead}
@@ -93,12 +94,12 @@ acked-number false v = refl
 pub refused-by-the-table : (c : Chip) (e : Event)
     → answerNumber (step c e .answer) ≡ firstRow (rowsOf c e)
 unfolding
-    controlWrite controlWriteA controlReadCall dataWriteCall dataReadCall transmitCall
+    controlWrite controlWriteA controlWriteB controlReadCall dataWriteCall dataReadCall transmitCall
     receiveCall linesCall acknowledge
 refused-by-the-table c HardReset = refl
 refused-by-the-table c (ControlWrite ch v) =
     by-channel-number c ch _ _ (λ n. settingNotBuilt c n v ∷ [])
-    (written-number (inService c (serviceBy c v) .a) A v) (written-number (c .b) B v)
+    (written-number (c .a) A v) (written-number (c .b) B v)
 refused-by-the-table c (ControlRead ch) = by-channel-number c ch _ _ (λ n. []) refl refl
 refused-by-the-table c (DataWrite ch v) =
     alike-number c ch (λ x. dataWriteIn x v) [] (λ x. refl)
@@ -111,7 +112,7 @@ refused-by-the-table c (Receive ch bit) =
 refused-by-the-table c (SetLines ch dcd cts) =
     alike-number c ch (λ x. linesIn x dcd cts) (linesAbove dcd cts ∷ [])
     (λ x. level-number x (leb 2 dcd || leb 2 cts) _ refl)
-refused-by-the-table c Acknowledge = acked-number (mayTake (pendingOf c) (serviceOf c)) (rr2 c)
+refused-by-the-table c Acknowledge = acked-number (mayTake (pendingOf c) (c .service)) (rr2 c)
 refused-by-the-table c Reti = refl
 
 -- Nothing changes
@@ -130,11 +131,11 @@ by-channel-kept c ch a b p q =
 
 in-a-kept : (c : Chip) (r : Answered) → KeptChannel (c .a) r → Kept c (inA c r)
 in-a-kept c r (inl e) = inl e
-in-a-kept c r (inr e) = inr (ap (λ (x : Channel). chip x (c .b)) e)
+in-a-kept c r (inr e) = inr (ap (λ (x : Channel). withA c x) e)
 
 in-b-kept : (c : Chip) (r : Answered) → KeptChannel (c .b) r → Kept c (inB c r)
 in-b-kept c r (inl e) = inl e
-in-b-kept c r (inr e) = inr (ap (λ (x : Channel). chip (c .a) x) e)
+in-b-kept c r (inr e) = inr (ap (λ (x : Channel). withB c x) e)
 
 alike-kept : (c : Chip) (ch : ℕ) (call : Channel → Answered)
     → ((x : Channel) → KeptChannel x (call x)) → Kept c (inChannel c ch call)
@@ -153,14 +154,18 @@ wr0-number : (x : Channel) (w : Side) (v : ℕ) → eqb (x .pointer) 0 ≡ true
 unfolding controlWritten
 wr0-number x w v e = rw e
 
--- command 7 stands in WR0, and no write of WR0 is refused
+-- commands stand in WR0, and no write of WR0 is refused
 write-a-kept : (c : Chip) (v : ℕ) → Kept c (controlWriteA c v)
 unfolding controlWriteA
 write-a-kept c v =
-    bool-or (endsService (c .a) v)
-    (λ e. inl (wr0-number (inService c (serviceBy c v) .a) A v
-    (both-left (eqb (c .a .pointer) 0) (eqb (commandIn v) 7) e)))
+    bool-or (eqb (c .a .pointer) 0) (λ e. inl (wr0-number (c .a) A v e))
     (λ e. rw e (in-a-kept c (controlWritten (c .a) A v) (written-kept (c .a) A v)))
+
+write-b-kept : (c : Chip) (v : ℕ) → Kept c (controlWriteB c v)
+unfolding controlWriteB
+write-b-kept c v =
+    bool-or (eqb (c .b .pointer) 0) (λ e. inl (wr0-number (c .b) B v e))
+    (λ e. rw e (in-b-kept c (controlWritten (c .b) B v) (written-kept (c .b) B v)))
 
 level-kept : (x : Channel) (above : Bool) (r : Answered) → answerNumber (r .answer) ≡ 0
     → KeptChannel x (if above then answered (Refused refusal.Level) x else r)
@@ -174,14 +179,13 @@ read-kept x = if-elim (KeptChannel x) (waits (x .queue)) (inl refl) (inr refl)
 acknowledge-kept : (c : Chip) → Kept c (step c Acknowledge)
 unfolding acknowledge acknowledged
 acknowledge-kept c =
-    bool-or (mayTake (pendingOf c) (serviceOf c)) (λ e. inl (rw e)) (λ e. inr (rw e))
+    bool-or (mayTake (pendingOf c) (c .service)) (λ e. inl (rw e)) (λ e. inr (rw e))
 
 kept : (c : Chip) (e : Event) → Kept c (step c e)
 unfolding controlWrite controlReadCall dataWriteCall dataReadCall transmitCall receiveCall linesCall
 kept c HardReset = inl refl
 kept c (ControlWrite ch v) =
-    by-channel-kept c ch _ _ (write-a-kept c v)
-    (in-b-kept c (controlWritten (c .b) B v) (written-kept (c .b) B v))
+    by-channel-kept c ch _ _ (write-a-kept c v) (write-b-kept c v)
 kept c (ControlRead ch) = by-channel-kept c ch _ _ (inl refl) (inl refl)
 kept c (DataWrite ch v) = alike-kept c ch (λ x. dataWriteIn x v) (λ x. inl refl)
 kept c (DataRead ch) = alike-kept c ch dataRead read-kept

@@ -7,7 +7,7 @@ use Rattle.line.specs.Check as check
 use Rattle.sender.specs.Sender.{idled}
 use Rattle.channel.specs.Channel.{withSender, withPointer, withTransmit}
 use Rattle.channel.specs.Answer.{answerNumber}
-use Rattle.chip.specs.Interrupts.{chip}
+use Rattle.chip.specs.Interrupts.{withA}
 use Rattle.chip.specs.Chip.{outcome}
 use Rattle.chip.specs.Event.{step}
 use Rattle.tales.specs.Tale.{Happens, telling}
@@ -32,7 +32,7 @@ abbrev clearsThePointerAtARefusal : Happens
 clearsThePointerAtARefusal c e =
     let o = step c e in
     if eqb (answerNumber (o .answer)) 3
-    then outcome (o .answer) (chip (withPointer (c .a) 0) (c .b))
+    then outcome (o .answer) (withA c (withPointer (c .a) 0))
     else o
 
 pub clearsThePointerAtARefusal-refused : Told clearsThePointerAtARefusal → ⊥

@@ -2,9 +2,9 @@
 use mathlib.Core.Path.{refl}
 use mathlib.Core.Bool.{false}
 use Rattle.common.specs.Choice.{if_then_else_}
-use Rattle.interrupts.specs.Interrupts.{noSources}
-use Rattle.channel.specs.Channel.{withStatus, withLines, withArmed, withService}
-use Rattle.chip.specs.Interrupts.{chip}
+use Rattle.interrupts.specs.Interrupts.{six, noSources, noSix}
+use Rattle.channel.specs.Channel.{withStatus, withLines, withArmed}
+use Rattle.chip.specs.Interrupts.{withB, inService}
 use Rattle.tales.specs.Tale.{Happens, telling}
 use Rattle.tales.specs.Kind.{isReset, isCommand}
 use Rattle.tales.specs.Parts.{withWr3, withWr4, withBuffer, withLatch, withSentCheck, withBroken}
@@ -85,12 +85,33 @@ abbrev resetEndsBInService : Happens
 resetEndsBInService =
     but (λ was e is.
     if isCommand 0 3 (was .a) e
-    then chip (is .a) (withService (is .b) noSources)
+    then inService is noSix
     else is)
 
 pub resetEndsBInService-refused : Told resetEndsBInService → ⊥
 unfolding telling
 resetEndsBInService-refused t = other-number (t .service-of-b) refl
+
+-- a channel reset of B leaves B's sources in service
+abbrev resetLeavesBInService : Happens
+resetLeavesBInService =
+    but (λ was e is. if isCommand 1 3 (was .b) e then inService is (was .service) else is)
+
+pub resetLeavesBInService-refused : Told resetLeavesBInService → ⊥
+unfolding telling
+resetLeavesBInService-refused t = other-number (t .service-ended-in-b) refl
+
+-- a channel reset of B ends A's sources in service, and not B's
+abbrev resetOfBEndsAInService : Happens
+resetOfBEndsAInService =
+    but (λ was e is.
+    if isCommand 1 3 (was .b) e
+    then inService is (six noSources (was .service .b))
+    else is)
+
+pub resetOfBEndsAInService-refused : Told resetOfBEndsAInService → ⊥
+unfolding telling
+resetOfBEndsAInService-refused t = other-number (t .service-of-a) refl
 
 -- a channel reset leaves A's status latched
 abbrev resetLeavesStatusLatched : Happens
@@ -115,7 +136,7 @@ resetSwitchesTheLinesOff-refused t = other-number (t .unlatched) refl
 
 -- a hard reset leaves B as it was
 abbrev hardResetIsOfAAlone : Happens
-hardResetIsOfAAlone = but (λ was e is. if isReset e then chip (is .a) (was .b) else is)
+hardResetIsOfAAlone = but (λ was e is. if isReset e then withB is (was .b) else is)
 
 pub hardResetIsOfAAlone-refused : Told hardResetIsOfAAlone → ⊥
 unfolding telling

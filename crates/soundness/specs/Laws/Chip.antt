@@ -13,9 +13,9 @@ use Rattle.soundness.specs.Laws.Channel.{data-write-sound, data-read-sou
 use Rattle.soundness.specs.Laws.Channel.{receive-sound, lines-sound}
 use Rattle.chip.specs.declared.Chip.{Chip}
 use Rattle.chip.specs.declared.Outcome.{Outcome}
-use Rattle.chip.specs.Interrupts.{inService, anyPending, rr2, acknowledge, reti}
-use Rattle.chip.specs.Chip.{hardReset, byChannel, inChannel, onLevel, serviceBy}
-use Rattle.chip.specs.Chip.{controlWriteA, controlWrite, controlReadCall, dataWriteIn}
+use Rattle.chip.specs.Interrupts.{anyPending, rr2, acknowledge, reti}
+use Rattle.chip.specs.Chip.{hardReset, byChannel, inChannel, onLevel}
+use Rattle.chip.specs.Chip.{controlWriteA, controlWriteB, controlWrite, controlReadCall, dataWriteIn}
 use Rattle.chip.specs.Chip.{dataWriteCall, dataReadCall, transmitCall}
 use Rattle.chip.specs.Chip.{receiveIn, receiveCall, linesIn, linesCall}
 use Rattle.chip.specs.Event.{Event, HardReset, ControlWrite, ControlRead, DataWrite, DataRead}
@@ -54,10 +54,10 @@ module _ (c : Chip) (h : SoundChip c) (ch : ℕ) where
   alike call k = each _ _ (k (c .a) (h .0), h .1) (h .0, k (c .b) (h .1))
 
   control-write : (v : ℕ) → SoundOutcome (controlWrite c ch v)
-  unfolding controlWrite controlWriteA
+  unfolding controlWrite controlWriteA controlWriteB
   control-write v =
-      each (controlWriteA c v) _
-      (control-write-sound (inService c (serviceBy c v) .a) A v (h .0), h .1)
+      each (controlWriteA c v) (controlWriteB c v)
+      (control-write-sound (c .a) A v (h .0), h .1)
       (h .0, control-write-sound (c .b) B v (h .1))
 
   control-read : SoundOutcome (controlReadCall c ch)

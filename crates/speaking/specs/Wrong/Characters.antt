@@ -7,7 +7,7 @@ use lib.Dec.{eqb}
 use Rattle.asynchronous.specs.Sending.{noCharacter}
 use Rattle.settings.specs.Settings.{store4, store5, stopField, autoEnables, senderOn, breaks}
 use Rattle.channel.specs.Events.{dataWritten}
-use Rattle.chip.specs.Interrupts.{chip}
+use Rattle.chip.specs.Interrupts.{withA, withB}
 use Rattle.chip.specs.Event.{Transmit, step}
 use Rattle.tales.specs.Tale.{Happens, telling, chipBehind, times}
 use Rattle.tales.specs.Kind.{isLoad, valueOf, isData, isTick, isWrite}
@@ -21,7 +21,7 @@ abbrev laysItsLineOutAndIdles : Happens
 laysItsLineOutAndIdles =
     but (λ was e is.
     if isLoad 0 (was .a) e (is .a)
-    then chip (withWr5 (chipBehind step is (times 39 (Transmit 0)) .a) 0) (is .b)
+    then withA is (withWr5 (chipBehind step is (times 39 (Transmit 0)) .a) 0)
     else is)
 
 pub laysItsLineOutAndIdles-refused : Told laysItsLineOutAndIdles → ⊥
@@ -65,7 +65,7 @@ keepsWhatItsBufferHas-refused t = other-list (t .replaced) refl
 abbrev writesDataForBFromA : Happens
 writesDataForBFromA =
     but (λ was e is.
-    if isData 1 e then chip (is .a) (dataWritten (was .a) (valueOf e)) else is)
+    if isData 1 e then withB is (dataWritten (was .a) (valueOf e)) else is)
 
 pub writesDataForBFromA-refused : Told writesDataForBFromA → ⊥
 unfolding telling

@@ -15,13 +15,10 @@ empty-requires c κs = tt
 quiet-requires : tie.Need-quiet-requires
 quiet-requires c κs = tt
 
-none-requires : tie.Need-none-requires
-none-requires c κs = tt
-
 returns : tie.Need-returns
-returns c = simp (tests, c .none .ensures, ← c .before .quiet .ensures, ← c .before .before .empty .ensures, ← c .before .before .before .reset2 .ensures, ← c .before .before .before .before .reset .ensures)
+returns c = simp (tests, c .quiet .ensures, ← c .before .empty .ensures, ← c .before .before .reset2 .ensures, ← c .before .before .before .reset .ensures)
 
 pub reset-spec : {M : Type 1} → statement M
 reset-spec =
     tie.close
-    (tie.spec reset-requires reset-requires-2 empty-requires quiet-requires none-requires returns)
+    (tie.spec reset-requires reset-requires-2 empty-requires quiet-requires returns)

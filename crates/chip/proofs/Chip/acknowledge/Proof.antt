@@ -7,12 +7,9 @@ use Rattle.chip.proofs.Chip.acknowledge.Tie as tie
 acknowledging-requires : tie.Need-acknowledging-requires
 acknowledging-requires c κs = tt
 
-in-service-requires : tie.Need-in-service-requires
-in-service-requires c κs = tt
-
 returns : tie.Need-returns
 unfolding acknowledge pendingOf rr2
-returns c = simp (tests, c .in-service .ensures, c .before .acknowledging .ensures)
+returns c = simp (tests, c .before .acknowledging .ensures)
 
 pub acknowledge-spec : {M : Type 1} → statement M
-acknowledge-spec = tie.close (tie.spec acknowledging-requires in-service-requires returns)
+acknowledge-spec = tie.close (tie.spec acknowledging-requires returns)

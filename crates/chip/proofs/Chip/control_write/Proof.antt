@@ -11,15 +11,12 @@ returns : tie.Need-returns
 unfolding controlWrite
 returns c = simp (tests, c .before .match .keys1) (c .write-a .ensures)
 
-control-write-b-requires : tie.Need-control-write-b-requires
-control-write-b-requires c κs = tt
-
-put-requires : tie.Need-put-requires
-put-requires c κs = tt
+write-b-requires : tie.Need-write-b-requires
+write-b-requires c κs = tt
 
 returns-2 : tie.Need-returns-2
 unfolding controlWrite
-returns-2 c = simp (tests, c .put .ensures, c .before .before .match .keys2, ← c .before .control-write-b .ensures)
+returns-2 c = simp (tests, c .before .match .keys2) (c .write-b .ensures)
 
 no-channel-requires : tie.Need-no-channel-requires
 no-channel-requires c κs = tt
@@ -31,11 +28,4 @@ returns-3 c = simp (tests, c .before .match .rest .1, c .before .match .rest .0 
 pub control-write-spec : {M : Type 1} → statement M
 control-write-spec =
     tie.close
-    (tie.spec
-    write-a-requires
-    returns
-    control-write-b-requires
-    put-requires
-    returns-2
-    no-channel-requires
-    returns-3)
+    (tie.spec write-a-requires returns write-b-requires returns-2 no-channel-requires returns-3)

@@ -4,11 +4,8 @@ use Rattle.chip.specs.Chip.{controlWriteA}
 use Rattle.chip.proofs.Chip.write_a.Statement.{statement}
 use Rattle.chip.proofs.Chip.write_a.Tie as tie
 
-service-under-requires : tie.Need-service-under-requires
-service-under-requires c κs = tt
-
-serving-requires : tie.Need-serving-requires
-serving-requires c κs = tt
+service-under-a-requires : tie.Need-service-under-a-requires
+service-under-a-requires c κs = tt
 
 control-write-a-requires : tie.Need-control-write-a-requires
 control-write-a-requires c κs = tt
@@ -18,14 +15,8 @@ put-requires c κs = tt
 
 returns : tie.Need-returns
 unfolding controlWriteA
-returns c = simp (tests, ← c .before .control-write-a .ensures, ← c .before .before .serving .ensures, ← c .before .before .before .service-under .ensures) (c .put .ensures)
+returns c = simp (tests, ← c .before .control-write-a .ensures, ← c .before .before .service-under-a .ensures) (c .put .ensures)
 
 pub write-a-spec : {M : Type 1} → statement M
 write-a-spec =
-    tie.close
-    (tie.spec
-    service-under-requires
-    serving-requires
-    control-write-a-requires
-    put-requires
-    returns)
+    tie.close (tie.spec service-under-a-requires control-write-a-requires put-requires returns)
