@@ -22,18 +22,18 @@ pub enum Side {
     B,
 }
 
-// Its parts stand in the order in which the fewest instructions move a channel through a tick (bench/README.md).
+// Its parts, and theirs, stand in the order in which its calls take the least stack and a tick the fewest instructions (bench/README.md).
 pub struct Channel {
     pub receiver: Receiver,
+    pub queue: Queue,
+    pub status: Status,
+    // transmit is pending
+    pub transmit: bool,
+    // the first-character interrupt
+    pub armed: bool,
     // the register that the next control read or write names
     pub pointer: u8,
     pub lines: Lines,
-    pub queue: Queue,
-    pub status: Status,
-    // the first-character interrupt
-    pub armed: bool,
-    // transmit is pending
-    pub transmit: bool,
     pub sender: Sender,
     pub registers: Registers,
 }

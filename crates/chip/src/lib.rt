@@ -33,11 +33,11 @@ pub struct Chip {
 
 // What a call answers, and the chip after it.
 pub struct Outcome {
-    pub chip: Chip,
     pub answer: Answer,
+    pub chip: Chip,
 }
 
-// What an acknowledge answers, and the chip after it.
+// What an acknowledge answers, and the chip after it; this stands first, so that its first part is moved with no place between.
 pub struct Acknowledged {
     pub chip: Chip,
     pub acked: Acked,

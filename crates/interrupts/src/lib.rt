@@ -129,8 +129,9 @@ pub fn may_take(pending: Six, service: Six) -> bool
 pub fn acknowledge(pending: Six, service: Six) -> Six
     ensures { λ r. ⌜ r ≡ acknowledged pending service ⌝ }
 {
-    if may_take(pending, service) {
-        return service.with_level(pending.highest(), true);
+    let level = pending.highest();
+    if level < service.highest() {
+        return service.with_level(level, true);
     }
     service
 }

@@ -9,10 +9,10 @@ ghost use Rattle.shared.specs.Shared.{sharedAtReset, filled, emptied, la
 
 // latch: Underrun/EOM, RR0 D6.
 pub struct Shared {
-    pub buffer: u8,
-    pub latch: bool,
     pub full: bool,
+    pub buffer: u8,
     pub check: u16,
+    pub latch: bool,
 }
 
 // A preset check of Monosync and Bisync.
