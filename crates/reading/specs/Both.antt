@@ -1,5 +1,5 @@
--- 01, Interrupts and external status: the sources of two channels, RR2, and what an acknowledge
--- takes. Assumes nothing.
+-- 01, Interrupts and external status: the sources of two channels, RR2, which stay in service under
+-- a control write, and what an acknowledge takes. Assumes nothing.
 use mathlib.Core.Bool.{Bool, _&&_}
 use Prim.Native.Nat.{ℕ}
 use lib.Dec.{eqb}

@@ -1,4 +1,5 @@
-// 01, Interrupts: the sources of two channels, A's and B's, what is read of them, and what an acknowledge takes. Assumes nothing.
+// 01, Interrupts: the sources of two channels, A's and B's, what is read of them, which stay in service under a control write, and what an
+// acknowledge takes. Assumes nothing.
 use crate::Taking;
 use crate::control_read;
 use crate::sources::pending;

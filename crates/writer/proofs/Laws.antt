@@ -1,19 +1,15 @@
--- What the writer answers in each case, what its test for room says, and the buffer that comes back. Assumes nothing.
-use Prim.Native.Nat.{ℕ, _+_, _-_, _≤_}
+-- What the writer answers in each case, and the buffer that comes back. Assumes nothing.
+use Prim.Native.Nat.{ℕ, _+_, _-_}
 use mathlib.Core.Path.{_≡_, sym, _∙_}
 use mathlib.Core.Bool.{Bool, true, false}
 use mathlib.Core.List.{List, _++_, append-nil}
-use native.Mathlib.Omega.{arith}
 use lib.Dec.{ltb}
-use borrow.Author.Tests.{ltb-false}
 use lib.ListN.{length, length-drop, take, drop}
 use lib.Seq.{take-length, drop-length, drop-drop}
 use Rattle.common.specs.declared.Refusal.the-variants.{NoteLength, NoRoom}
 use Rattle.line.specs.Frame.{zerosOf, ticksOf}
 use Rattle.line.specs.Line.{noteFits}
-use Rattle.line.specs.Laws.Frame.{ticks-are}
 use Rattle.zeros.specs.declared.Counted.the-variants.{Zeros, Refused}
-use Rattle.zeros.specs.Zeros.{lineTicks}
 use Rattle.writer.specs.Writer.{writeOf}
 
 module _ (note out : List ℕ) (at : ℕ) where
@@ -22,11 +18,6 @@ module _ (note out : List ℕ) (at : ℕ) where
   unfit-refused f = rw f
 
   module _ {a : Bool} (e : a ≡ noteFits (length note)) (f : a ≡ true) where
-    -- the test for room, of a note that fits
-    pub test-said : {room : ℕ} {b : Bool} → room ≡ length out - at → b ≡ ltb room (lineTicks note) → ltb (length out - at) (ticksOf note) ≡ b
-    unfolding lineTicks
-    test-said r t = sym (rw (sym e ∙ f, r) at t)
-
     pub short-refused : ltb (length out - at) (ticksOf note) ≡ true → writeOf note out at ≡ Refused NoRoom
     unfolding writeOf
     short-refused t = rw (sym e ∙ f, t)
@@ -34,10 +25,6 @@ module _ (note out : List ℕ) (at : ℕ) where
     pub room-counted : ltb (length out - at) (ticksOf note) ≡ false → writeOf note out at ≡ Zeros (zerosOf note)
     unfolding writeOf
     room-counted t = rw (sym e ∙ f, t)
-
-  -- a line is never empty, so that a place with room for one is inside the buffer
-  pub room-there : ltb (length out - at) (ticksOf note) ≡ false → (ticksOf note ≤ length out - at) × (at ≤ length out)
-  room-there t = let h = ltb-false (length out - at) (ticksOf note) t in (h, omega (arith, ticks-are note))
 
 -- the whole buffer after a part from a place on has come back with n new cells at its start
 pub part-back : (old new : List ℕ) (n at : ℕ)

@@ -2,7 +2,8 @@
 use mathlib.Core.Path.{refl, sym, ap, _∙_}
 use denote.Ref.{now}
 use Rattle.zeros.specs.declared.Counted.the-variants.{Zeros}
-use Rattle.lent.proofs.Laws.{unfit-refused, test-said, short-refused, room-laid, place-inside}
+use Rattle.zeros.specs.Laws.{test-said, room-there}
+use Rattle.lent.proofs.Laws.{unfit-refused, short-refused, room-laid}
 use Rattle.lent.proofs.write_line_by.Statement.{statement}
 use Rattle.lent.proofs.write_line_by.Tie as tie
 
@@ -20,7 +21,7 @@ returns c =
     let b = c .before .before .before .before in
     let a = b .before .before .before .args in
     let fit = c .before .before .before .if1 .taken in
-    let t = test-said (now (a .checks)) (now (a .stamps)) (now (a .fours)) (now (a .note)) (now (a .out)) (a .at) (b .note-fits .ensures) fit (c .before .before .room-from .ensures) (c .before .lacks-room .ensures) in
+    let t = test-said (now (a .note)) (now (a .out)) (a .at) (b .note-fits .ensures) fit (c .before .before .room-from .ensures) (c .before .lacks-room .ensures) in
     let e = short-refused (now (a .checks)) (now (a .stamps)) (now (a .fours)) (now (a .note)) (now (a .out)) (a .at) (b .note-fits .ensures) fit (t ∙ c .if2 .taken) in
     rw e (refl, refl)
 
@@ -30,8 +31,8 @@ lay-at-requires c κs =
     let b = d .before .before .before .before in
     let a = b .before .before .before .args in
     let fit = d .before .before .before .if1 .taken in
-    let t = test-said (now (a .checks)) (now (a .stamps)) (now (a .fours)) (now (a .note)) (now (a .out)) (a .at) (b .note-fits .ensures) fit (d .before .before .room-from .ensures) (d .before .lacks-room .ensures) in
-    (sym (b .note-fits .ensures) ∙ fit, place-inside (now (a .checks)) (now (a .stamps)) (now (a .fours)) (now (a .note)) (now (a .out)) (a .at) (t ∙ d .if2 .left))
+    let t = test-said (now (a .note)) (now (a .out)) (a .at) (b .note-fits .ensures) fit (d .before .before .room-from .ensures) (d .before .lacks-room .ensures) in
+    (sym (b .note-fits .ensures) ∙ fit, room-there (now (a .note)) (now (a .out)) (a .at) (t ∙ d .if2 .left) .1)
 
 same-length : tie.Need-same-length
 same-length c = c .before .before .lay-at .kept .1 .1 .1 .1 .0
@@ -43,7 +44,7 @@ returns-2 c =
     let b = d .before .before .before .before in
     let a = b .before .before .before .args in
     let fit = d .before .before .before .if1 .taken in
-    let t = test-said (now (a .checks)) (now (a .stamps)) (now (a .fours)) (now (a .note)) (now (a .out)) (a .at) (b .note-fits .ensures) fit (d .before .before .room-from .ensures) (d .before .lacks-room .ensures) in
+    let t = test-said (now (a .note)) (now (a .out)) (a .at) (b .note-fits .ensures) fit (d .before .before .room-from .ensures) (d .before .lacks-room .ensures) in
     let e = room-laid (now (a .checks)) (now (a .stamps)) (now (a .fours)) (now (a .note)) (now (a .out)) (a .at) (b .note-fits .ensures) fit (t ∙ d .if2 .left) in
     rw e (ap Zeros (laid .lay-at .ensures .0), laid .lay-at .ensures .1)
 

@@ -9,7 +9,8 @@ use Rattle.line.specs.Frame.{frame, ticksOf}
 use Rattle.zeros.specs.declared.Counted.{Counted}
 use Rattle.zeros.specs.declared.Counted.the-variants.{Zeros}
 use Rattle.writer.specs.Writer.{bufferAfter}
-use Rattle.writer.proofs.Laws.{unfit-refused, test-said, short-refused, room-counted, room-there, part-back}
+use Rattle.zeros.specs.Laws.{test-said, room-there}
+use Rattle.writer.proofs.Laws.{unfit-refused, short-refused, room-counted, part-back}
 use borrow.Author.Needs.{needs}
 use Rattle.writer.proofs.write_line.Statement.{statement}
 use Rattle.writer.proofs.write_line.Tie as tie
