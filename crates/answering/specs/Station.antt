@@ -10,12 +10,13 @@ use Rattle.common.specs.Tools.{bool-or}
 use Rattle.line.specs.Line.{noteFits}
 use Rattle.flags.specs.declared.Between.{Between}
 use Rattle.notes.specs.NoteList.{Reading, whole, refuses, restFrom, firstNote, readList, scanned}
+use Rattle.notes.specs.NoteList.{readingNumber}
 use Rattle.report.specs.Report.{reported, reportOf, pagesOf, rowsIn}
 use Rattle.chip.specs.declared.Chip.{Chip}
 use Rattle.promises.specs.Refusals.{firstRow}
 use Rattle.listline.specs.ListLine.{chipAfter}
 use Rattle.station.specs.Station.{sendOf, listedOf}
-use Rattle.refusing.specs.Refusing.{lengthBad, listLong, listNone, readingNumber, list-refused}
+use Rattle.refusing.specs.Refusing.{lengthBad, listLong, listNone, list-refused}
 use Rattle.notes.specs.Scanned.{scannedNumber}
 use Rattle.report.specs.Pages.{pagesNumber}
 use Rattle.station.specs.Answers.{toldNumber, listedNumber}

@@ -1,6 +1,7 @@
 -- 01, Events: "Hard reset; control write, control read, data write, data read; transmit tick ..;
 -- receive tick ..; set DCD and CTS; acknowledge; RETI." An event with what it is given, and what
 -- it makes of a chip. Assumes nothing.
+use mathlib.Core.List.{List, [], _∷_}
 use Prim.Native.Nat.{ℕ}
 use Rattle.common.specs.declared.Refusal.the-variants as refusal
 use Rattle.vector.specs.declared.Acked.{Acked}
@@ -43,3 +44,7 @@ step c (Receive ch bit) = receiveCall c ch bit
 step c (SetLines ch dcd cts) = linesCall c ch dcd cts
 step c Acknowledge = outcome (ackedAnswer (acknowledge c .acked)) (acknowledge c .chip)
 step c Reti = outcome Done (reti c)
+
+-- a register of a channel written: WR0 takes its number, then it its value
+abbrev pub set : ℕ → ℕ → ℕ → List Event
+set ch wr v = ControlWrite ch wr ∷ ControlWrite ch v ∷ []

@@ -1,11 +1,13 @@
 -- Tools for proofs: to go by a test, to go by whichever way a choice went, what a test says that
--- came out true, and a test over every number below a bound. Assumes nothing.
+-- came out true, a test over every number below a bound, and a list of length 0. Assumes nothing.
 use mathlib.Core.Path.{_≡_, refl, sym, ap, _∙_}
 use mathlib.Core.Logic.{_≢_}
 use mathlib.Core.Bool.{Bool, true, false, not, Bool·beq, _&&_}
+use mathlib.Core.List.{List, [], _∷_}
 use Prim.Native.Nat.{ℕ, zero, suc, _≤_, _<_}
 use native.Mathlib.Omega.{arith}
 use lib.Dec.{T, eqb, ltb}
+use lib.ListN.{length}
 use borrow.Author.Tests.{eqb-true, eqb-false, ltb-true, ltb-false, le-leb, lt-leb, le-ltb, lt-ltb}
 use borrow.Author.Tests.{eq-eqb, ne-eqb}
 use Rattle.common.specs.Choice.{if_then_else_}
@@ -112,3 +114,8 @@ beq→ true true t = refl
 beq→ true false t = absurd t
 beq→ false true t = absurd t
 beq→ false false t = refl
+
+-- a list of length 0 is empty
+pub no-items : {X : Type 0} (xs : List X) → length xs ≡ 0 → xs ≡ []
+no-items [] e = refl
+no-items (x ∷ xs) e = absurd (omega arith)

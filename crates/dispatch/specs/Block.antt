@@ -7,6 +7,7 @@ use Prim.Native.Nat.{ℕ, _+_, _≤_}
 use native.Mathlib.Omega.{arith}
 use lib.ListN.{length, take, length-append}
 use lib.Seq.{take-at, length-take-le}
+use Rattle.common.specs.Tools.{no-items}
 use Rattle.line.specs.Bits.{lowBits}
 use Rattle.shared.specs.Preset.{zeros}
 use Rattle.shared.specs.Shared.{shared}
@@ -17,7 +18,7 @@ use Rattle.blocks.specs.Come.{Sends, sends, ticked, filledWith, syncBits, close
 use Rattle.blocks.specs.Come.{Stage}
 use Rattle.blocks.specs.Come.{opening, syncHead, blockBits}
 use Rattle.blocks.specs.Laws.Come.{takes, moves, moves-behind}
-use Rattle.blocks.specs.Laws.Sent.{no-bits, sync-length, closed-length}
+use Rattle.blocks.specs.Laws.Sent.{sync-length, closed-length}
 use Rattle.chip.specs.declared.Chip.{Chip}
 use Rattle.chip.specs.Event.{Event, DataWrite, Transmit}
 use Rattle.stories.specs.Story.{Which, number, chan, happens, after}
@@ -185,7 +186,7 @@ module _ (w : Which) (c : Chip) (p v : ℕ) (vs tail left more : List ℕ) (st :
   all-come n =
       let t = toCome g (kept .last) left more in
       let sent = syncHead (syncsOf w c) p ++ lineOf w c st in
-      no-bits t (omega (
+      no-items t (omega (
         arith,
         length-append sent t,
         ap length sent-whole,

@@ -15,11 +15,10 @@ use Rattle.chip.specs.Computing.{computing}
 use Rattle.chip.specs.declared.Chip.{Chip}
 use Rattle.chip.specs.Chip.{hardReset}
 use Rattle.chip.specs.Event.{Event, ControlWrite, ControlRead, DataWrite, DataRead, Transmit}
-use Rattle.chip.specs.Event.{Receive, SetLines, Acknowledge, Reti}
+use Rattle.chip.specs.Event.{Receive, SetLines, Acknowledge, Reti, set}
 use Rattle.stories.specs.Story.{A, after, throughout}
 use Rattle.stories.specs.Received.{bitsOf}
 use Rattle.stories.specs.Receiving.{story}
-use Rattle.stories.specs.Calls.{set}
 use Rattle.terminals.specs.Side.{sideOf, momentsOf}
 use Rattle.terminals.specs.Statement.{Listening, matchingOf, BlockFed, Received}
 use Rattle.terminals.specs.Statement.{rr1D6}

@@ -10,11 +10,10 @@ use Rattle.chip.specs.Computing.{computing}
 use Rattle.chip.specs.declared.Chip.{Chip}
 use Rattle.chip.specs.Chip.{hardReset}
 use Rattle.chip.specs.Event.{Event, ControlWrite, ControlRead, DataWrite, DataRead, Transmit}
-use Rattle.chip.specs.Event.{Receive, SetLines, Acknowledge, Reti}
+use Rattle.chip.specs.Event.{Receive, SetLines, Acknowledge, Reti, set}
 use Rattle.stories.specs.Story.{A, after}
 use Rattle.stories.specs.Sent.{lineOf, ticks}
 use Rattle.stories.specs.Sending.{times}
-use Rattle.stories.specs.Calls.{set}
 use Rattle.dispatch.specs.Side.{syncingOf}
 use Rattle.dispatch.specs.Statement.{syncsOf, Start}
 use Rattle.dispatch.specs.Tests.{timely, in-time}

@@ -7,21 +7,15 @@ use Prim.Native.Nat.{ℕ, _+_}
 use lib.Dec.{eqb, ltb}
 use lib.ListN.{length, getD, take, drop}
 use Rattle.common.specs.Choice.{if_then_else_}
-use Rattle.common.specs.Refusal.{numberOf}
 use Rattle.common.specs.declared.Refusal.the-variants.{NoteLength, CutList}
 use Rattle.line.specs.Bits.{lowBits, textBits}
 use Rattle.line.specs.Insertion.{zeros}
 use Rattle.line.specs.Frame.{contentOf}
 use Rattle.head.specs.NoteHead.{lengthAt}
-use Rattle.notes.specs.NoteList.{Reading, whole, refuses, version, readList}
+use Rattle.notes.specs.NoteList.{Reading, whole, refuses, readingNumber, version, readList}
 use Rattle.zeros.specs.declared.Counted.{Counted}
 use Rattle.zeros.specs.declared.Counted.the-variants.{Zeros}
 use Rattle.zeros.specs.Zeros.{countOf}
-
--- the paper's number of a refused list, 0 for none
-abbrev pub number : Reading → ℕ
-number (whole notes) = 0
-number (refuses k) = numberOf k
 
 abbrev pub reads : List ℕ → Reading
 reads list = readList list

@@ -6,6 +6,7 @@ use Prim.Native.Nat.{ℕ, zero, suc, _+_, _/_, _%_}
 use lib.Dec.{eqb, ltb}
 use lib.ListN.{length, getD}
 use Rattle.common.specs.Choice.{if_then_else_}
+use Rattle.common.specs.Refusal.{numberOf}
 use Rattle.common.specs.declared.Refusal.{Refusal}
 use Rattle.common.specs.declared.Refusal.the-variants.{NoList, LongList}
 use Rattle.line.specs.Line.{noteFits}
@@ -40,6 +41,11 @@ pub data AllFit : List (List ℕ) → Type 0 where
 pub data Reading : Type 0 where
   whole : List (List ℕ) → Reading
   refuses : Refusal → Reading
+
+-- the paper's number of a refused list, 0 for none
+abbrev pub readingNumber : Reading → ℕ
+readingNumber (whole notes) = 0
+readingNumber (refuses k) = numberOf k
 
 abbrev pub inFront : List ℕ → Reading → Reading
 inFront note (whole notes) = whole (note ∷ notes)

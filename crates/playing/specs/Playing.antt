@@ -9,7 +9,7 @@ use Rattle.channel.specs.declared.Answer.the-variants.{Done, Gave}
 use Rattle.channel.specs.Answer.{answerNumber, answerValue}
 use Rattle.chip.specs.declared.Chip.{Chip}
 use Rattle.chip.specs.declared.Outcome.{Outcome}
-use Rattle.chip.specs.Chip.{hardReset}
+use Rattle.chip.specs.Chip.{outcome, hardReset}
 use Rattle.script.specs.Step.{step}
 use Rattle.script.specs.Shown.{registerOf}
 use Rattle.items.specs.declared.Item.{Item}
@@ -21,10 +21,6 @@ use Rattle.calls.specs.Calls.{valueOf}
 use Rattle.playing.specs.List.{listGave}
 
 -- An item
-
--- what it gave, and the chip behind it
-abbrev pub outcome : Answer → Chip → Outcome
-outcome w c = record { answer = w; chip = c }
 
 abbrev pub eventOutcome : Chip → Item → Outcome
 eventOutcome c i = step c (i .kind) (i .x) (i .y) (i .z)

@@ -22,7 +22,7 @@ use Rattle.writer.specs.Writer.{writeOf, bufferAfter}
 use Rattle.head.specs.Number.{headNumber}
 use Rattle.head.specs.NoteHead.{lengthBytes, lengthAt, headOf}
 use Rattle.notes.specs.NoteList.{Reading, whole, refuses, restFrom, firstNote, version, longestList}
-use Rattle.notes.specs.NoteList.{readList}
+use Rattle.notes.specs.NoteList.{readList, readingNumber}
 use Rattle.chip.specs.declared.Chip.{Chip}
 use Rattle.chip.specs.Event.{Event}
 use Rattle.promises.specs.Refusals.{Row, rowsOf, firstRow}
@@ -104,10 +104,6 @@ note-refused list i =
     (λ g. bool-or (ltb (length list - i - lengthBytes) (lengthAt list i)) (λ h. rw (e, f, g, h))
     (λ h. rw (e, f, g, h)))
     (λ g. rw (e, f, g))))
-
-abbrev pub readingNumber : Reading → ℕ
-readingNumber (whole notes) = 0
-readingNumber (refuses k) = numberOf k
 
 pub list-refused : (list : List ℕ)
     → readingNumber (readList list)

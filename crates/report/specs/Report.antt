@@ -8,7 +8,6 @@ use lib.Seq.{sets}
 use Rattle.common.specs.Choice.{if_then_else_}
 use Rattle.common.specs.declared.Refusal.{Refusal}
 use Rattle.line.specs.Frame.{zerosOf, ticksOf}
-use Rattle.line.specs.Line.{noteFits}
 use Rattle.flags.specs.declared.Between.{Between}
 use Rattle.flags.specs.Flags.{totalTicks}
 use Rattle.notes.specs.NoteList.{Reading, whole, refuses, readList}
@@ -28,10 +27,6 @@ rowLength = 4
 unfoldable pub rowsFrom : ℕ → List (List ℕ) → List ℕ
 rowsFrom number [] = []
 rowsFrom number (note ∷ notes) = rowOf number note ++ rowsFrom (number + 1) notes
-
--- the ticks of a note, 0 of one that has no frame
-abbrev pub noteTicks : List ℕ → ℕ
-noteTicks note = if noteFits (length note) then ticksOf note else 0
 
 -- A list
 

@@ -2,11 +2,11 @@
 use zeros::Counted;
 use zeros::zeros_of;
 ghost use mathlib.Core.Path.{_≡_};
-ghost use Rattle.report.specs.Report.{noteTicks};
+ghost use Rattle.zeros.specs.Zeros.{lineTicks};
 
 // A note's ticks, with both flags; 0 of one that has no frame.
 pub(crate) fn note_ticks(note: &[u8]) -> usize
-    ensures { λ r. ⌜ r ≡ noteTicks (now (note .entry)) ⌝ }
+    ensures { λ r. ⌜ r ≡ lineTicks (now (note .entry)) ⌝ }
 {
     let z = zeros_of(note);
     match z {

@@ -10,6 +10,7 @@ use Rattle.tales.specs.Words.{command, set, hears, writes, takes, ticks, ones, 
 use Rattle.tales.specs.Words.{clearUnderrun, oneStop, oneStopOdd, sdlcMode, hearEight, hearing}
 use Rattle.tales.specs.Words.{sending, framing, char41, cut41, blank}
 use Rattle.resetting.specs.Happens.{happens}
+use Rattle.resetting.specs.Resets.{wrongParity}
 
 -- "Reset External/Status"
 abbrev afresh : List Event
@@ -35,10 +36,6 @@ underWay = sending 0 oneStop ++ set 0 1 0b10 ++ writes 0 0 ++ ticks 0 1
 -- two characters have come and one is read, the interrupt for first characters on
 abbrev firstRead : List Event
 firstRead = hearing 0 oneStop ++ set 0 1 0b1000 ++ char41 0 ++ char41 0 ++ takes 0 1
-
--- 41 in eight bits with the parity bit of even parity, while odd is set
-abbrev wrongParity : List Event
-wrongParity = hearing 0 oneStopOdd ++ hears 0 11 0b01000001001
 
 pub record Told (happens : Happens) : Type 0 where
   -- "An accepted WR4 that changes the mode": the same mode again, with other parity, cuts nothing

@@ -20,7 +20,7 @@ abbrev reset : List Event
 reset = command 0 channelReset
 
 -- 41 in eight bits with the parity bit of even parity, while odd is set
-abbrev wrongParity : List Event
+abbrev pub wrongParity : List Event
 wrongParity = hearing 0 oneStopOdd ++ hears 0 11 0b01000001001
 
 -- A has read a first character, its interrupt for first characters on

@@ -4,17 +4,14 @@ use mathlib.Core.Bool.{_&&_}
 use Prim.Native.Nat.{ℕ}
 use lib.Dec.{eqb, leb}
 use Rattle.common.specs.Choice.{if_then_else_}
-use Rattle.common.specs.declared.Refusal.the-variants as refusal
-use Rattle.channel.specs.declared.Answer.{Answer}
-use Rattle.channel.specs.declared.Answer.the-variants.{Done, Gave, Refused}
+use Rattle.channel.specs.declared.Answer.the-variants.{Done}
 use Rattle.chip.specs.declared.Chip.{Chip}
 use Rattle.chip.specs.declared.Outcome.{Outcome}
-use Rattle.vector.specs.declared.Acked.{Acked}
-use Rattle.vector.specs.declared.Acked.the-variants.{Vector, NothingWaits}
 use Rattle.chip.specs.declared.Acknowledged.{Acknowledged}
 use Rattle.chip.specs.Interrupts.{acknowledge, reti}
 use Rattle.chip.specs.Chip.{hardReset, controlWrite, controlReadCall, dataWriteCall, dataReadCall}
 use Rattle.chip.specs.Chip.{transmitCall, receiveCall, linesCall}
+use Rattle.chip.specs.Event.{ackedAnswer}
 
 -- the code of each event, in the order of the sentence below; RETI's is 9
 abbrev pub resetEvent : ℕ
@@ -65,13 +62,8 @@ named c code x y z =
 abbrev pub plain : Chip → Outcome
 plain c = record { answer = Done; chip = c }
 
--- "An acknowledge answers with a vector byte or with the refusal that nothing waits."
-abbrev pub answerOf : Acked → Answer
-answerOf (Vector v) = Gave v
-answerOf NothingWaits = Refused refusal.NothingWaits
-
 abbrev pub acknowledged : Acknowledged → Outcome
-acknowledged o = record { answer = answerOf (o .acked); chip = o .chip }
+acknowledged o = record { answer = ackedAnswer (o .acked); chip = o .chip }
 
 unfoldable pub unnamed : Chip → ℕ → Outcome
 unnamed c code =

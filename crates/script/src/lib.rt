@@ -7,7 +7,8 @@ use common::Refusal;
 use vector::Acked;
 ghost use mathlib.Core.Path.{_≡_};
 ghost use Rattle.chip.specs.Interrupts.{acknowledge};
-ghost use Rattle.script.specs.Step.{answerOf, acknowledged, plain, unnamed, atPins, named, step};
+ghost use Rattle.chip.specs.Event.{ackedAnswer};
+ghost use Rattle.script.specs.Step.{acknowledged, plain, unnamed, atPins, named, step};
 ghost use Rattle.script.specs.Shown.{registerOf, shown};
 
 // The codes of the events.
@@ -31,7 +32,7 @@ const ACKNOWLEDGE: u8 = 8;
 
 // An acknowledge's answer among those of the other calls.
 fn answer_of(w: Acked) -> Answer
-    ensures { λ r. ⌜ r ≡ answerOf w ⌝ }
+    ensures { λ r. ⌜ r ≡ ackedAnswer w ⌝ }
 {
     match w {
         Acked::Vector(v) => Answer::Gave(v),

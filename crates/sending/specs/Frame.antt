@@ -7,6 +7,7 @@ use Prim.Native.Nat.{ℕ, _+_, _-_, _≤_}
 use native.Mathlib.Omega.{arith}
 use lib.ListN.{length, take, length-append}
 use lib.Seq.{take-at}
+use Rattle.common.specs.Tools.{no-items}
 use Rattle.line.specs.Frame.{frame}
 use Rattle.line.specs.Laws.Frame.{ticks-are}
 use Rattle.shared.specs.Shared.{shared}
@@ -175,10 +176,6 @@ frame-begun w c p v vs left st s i n =
     ∙ ap (take (p + ticks w st))
     (append-assoc (flagHead p) (lineOf w c st) (toCome (k .0 .last) left) ∙ k .1)
 
-nothing : {X : Type 0} (xs : List X) → length xs ≡ 0 → xs ≡ []
-nothing [] e = refl
-nothing (x ∷ xs) e = absurd (omega arith)
-
 pub demand3 : FrameSent
 demand3 w c p v vs st s i n =
     let m = ticks-are (v ∷ vs) in
@@ -187,7 +184,7 @@ demand3 w c p v vs st s i n =
     let sent = flagHead p ++ lineOf w c st in
     let q : sent ++ t ≡ frame (v ∷ vs) = append-assoc (flagHead p) (lineOf w c st) t ∙ k .1 in
     let z : t ≡ [] =
-    nothing t (omega
+    no-items t (omega
     (arith, ap length q, length-append sent t, sent-length w c p st (s .inside))) in
     sym (ap (λ (l : List Bool). sent ++ l) z ∙ append-nil sent) ∙ q
 

@@ -4,4 +4,3 @@ pub mod Sent
 pub mod Received
 pub mod Sending
 pub mod Receiving
-pub mod Calls

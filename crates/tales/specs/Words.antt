@@ -4,16 +4,13 @@ use Prim.Native.Nat.{ℕ}
 pub use Rattle.settings.specs.Bytes.{sendAbort, resetStatus, channelReset, arm, resetTransmit}
 pub use Rattle.settings.specs.Bytes.{resetErrors, asReti, presetReceived, presetSent, clearUnderrun}
 pub use Rattle.settings.specs.Bytes.{sdlcMode, sendChecked}
+pub use Rattle.chip.specs.Event.{set}
 use Rattle.chip.specs.Event.{Event, ControlWrite, DataWrite, DataRead, Transmit, Receive}
 use Rattle.tales.specs.Tale.{times, digits}
 
 -- a byte for WR0: a command or D7-6
 abbrev pub command : ℕ → ℕ → List Event
 command ch v = ControlWrite ch v ∷ []
-
--- a register is written: WR0 takes its number, then it its value
-abbrev pub set : ℕ → ℕ → ℕ → List Event
-set ch wr v = ControlWrite ch wr ∷ ControlWrite ch v ∷ []
 
 -- the n binary digits of v come along a line, as they are written
 abbrev pub hears : ℕ → ℕ → ℕ → List Event

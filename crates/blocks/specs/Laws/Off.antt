@@ -14,6 +14,7 @@ use Rattle.bytesync.specs.declared.BlockUnit.the-variants.{Mark, Sync, Byte, Ch
 use Rattle.bytesync.specs.declared.Syncing.{Syncing}
 use Rattle.bytesync.specs.declared.Synced.{Synced}
 use Rattle.bytesync.specs.Sending.{sentBit, startMark, following, tickBlock}
+use Rattle.bytesync.specs.Within.{unitLeft}
 use Rattle.blocks.specs.Come.{sends, Tick, actsLine, lastOf}
 use Rattle.blocks.specs.Laws.Come.{tick-sync, tick-byte, tick-check}
 
@@ -72,13 +73,6 @@ module _ (g : Syncing) (off : g .on ≡ false) where
       rw (z, b n v) (ticks-on (of (suc n) v) k (n + j) (bit v) (of n (shift v))
       (bits n (shift v) ++ replicate j true) (d k n v)
       (unit-off of bit shift bits a b c d n (shift v) k j))
-
-  -- how many bits are left of it
-  abbrev pub unitLeft : BlockUnit → ℕ
-  unitLeft Mark = 0
-  unitLeft (Sync n v) = n
-  unitLeft (Byte n v) = n
-  unitLeft (Check n v) = n
 
   -- "Off lets the unit under way end; latch and buffer stay"
   pub off-ends : (u : BlockUnit) (k : Shared) (j : ℕ)

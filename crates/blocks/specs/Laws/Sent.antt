@@ -9,7 +9,7 @@ use native.Mathlib.Omega.{arith}
 use lib.ListN.{length, take, length-append}
 use lib.Seq.{take-at}
 use Rattle.common.specs.Choice.{if_then_else_}
-use Rattle.common.specs.Tools.{void}
+use Rattle.common.specs.Tools.{void, no-items}
 use Rattle.line.specs.Bits.{lowBits, textBits}
 use Rattle.line.specs.Check.{topBits}
 use Rattle.line.specs.Laws.Bits.{lowBits-length, lowBits-split, textBits-length}
@@ -69,10 +69,6 @@ line-length g s [] = refl
 line-length g s (Tick ∷ acts) = ap suc (line-length g (ticked g s) acts)
 line-length g s (Write v ∷ acts) = line-length g (filledWith s v) acts
 
-pub no-bits : {X : Type 0} (xs : List X) → length xs ≡ 0 → xs ≡ []
-no-bits [] e = refl
-no-bits (x ∷ xs) e = absurd (omega arith)
-
 -- as many ticks as there are bits to come bring them all
 pub all-sent : (g : Syncing) → Good g → {s : Sends} {rest tail : List ℕ} {acts : List Act}
     → InTime g [] [] s rest tail acts → Stage s rest tail
@@ -82,7 +78,7 @@ all-sent g h {s} {rest} {tail} {acts} i x e =
     let l = actsLine g s acts in
     let t = toCome g (lastOf g s acts) [] [] in
     let z : t ≡ [] =
-    no-bits t (omega (arith, ap length (k .line), length-append l t, line-length g s acts)) in
+    no-items t (omega (arith, ap length (k .line), length-append l t, line-length g s acts)) in
     sym (append-nil l) ∙ ap (λ (y : List Bool). l ++ y) (sym z) ∙ k .line
 
 -- Lengths

@@ -15,9 +15,10 @@ use Rattle.report.specs.declared.Pages.{Pages}
 use Rattle.report.specs.declared.Pages.the-variants.{Ticks, Refused}
 use Rattle.flags.specs.declared.Between.the-variants.{SharedFlag}
 use Rattle.flags.specs.Flags.{withNote, inAll}
-use Rattle.report.specs.Report.{noteTicks, reportOf, pagesOf}
+use Rattle.zeros.specs.Zeros.{lineTicks}
+use Rattle.report.specs.Report.{reportOf, pagesOf}
 use Rattle.report.specs.Laws.Notes.{next-note, walk-next, walk-last}
-use Rattle.report.specs.Laws.Ticks.{ticks-few, noteTicks-fits, pages-walk}
+use Rattle.report.specs.Laws.Ticks.{ticks-few, lineTicks-fits, pages-walk}
 use Rattle.report.proofs.list_ticks.Statement.{statement}
 use Rattle.report.proofs.list_ticks.Tie as tie
 
@@ -51,7 +52,7 @@ add-sum c =
     let list = now (s .args .list) in
     let x = next-note list (l .i) (l .left) (c .before .before .loop-test .taken) (l .inv .1 .0) in
     let text = c .before .note-at .ensures in
-    let ticks = c .note-ticks .ensures ∙ ap (λ (t : List ℕ). noteTicks t) text ∙ noteTicks-fits (noteAt list (l .i)) (x .fits) in
+    let ticks = c .note-ticks .ensures ∙ ap (λ (t : List ℕ). lineTicks t) text ∙ lineTicks-fits (noteAt list (l .i)) (x .fits) in
     let few = ticks-few (noteAt list (l .i)) (x .fits) in
     let size = scanned-size list (s .args .n) (s .pre) in
     omega (arith, ticks, few, l .inv .1 .1 .0, l .inv .1 .1 .1, size)
@@ -83,7 +84,7 @@ loop-again c =
     let list = now (s .args .list) in
     let x = next-note list (l .i) (l .left) (c .before .before .loop-test .taken) (l .inv .1 .0) in
     let text = c .before .note-at .ensures in
-    let ticks = c .note-ticks .ensures ∙ ap (λ (t : List ℕ). noteTicks t) text ∙ noteTicks-fits (noteAt list (l .i)) (x .fits) in
+    let ticks = c .note-ticks .ensures ∙ ap (λ (t : List ℕ). lineTicks t) text ∙ lineTicks-fits (noteAt list (l .i)) (x .fits) in
     let few = ticks-few (noteAt list (l .i)) (x .fits) in
     let size = scanned-size list (s .args .n) (s .pre) in
     let n = s .args .n in

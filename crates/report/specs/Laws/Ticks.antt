@@ -12,7 +12,7 @@ use Rattle.common.specs.declared.Refusal.the-variants.{NoteLength}
 use Rattle.zeros.specs.declared.Counted.the-variants as counted
 use Rattle.line.specs.Frame.{zerosOf, ticksOf}
 use Rattle.line.specs.Line.{noteFits}
-use Rattle.zeros.specs.Zeros.{countOf}
+use Rattle.zeros.specs.Zeros.{countOf, lineTicks}
 use Rattle.line.specs.Laws.Frame.{ticks-are, zeros-few}
 use Rattle.line.specs.Laws.Line.{fits-few}
 use Rattle.flags.specs.declared.Between.{Between}
@@ -20,7 +20,7 @@ use Rattle.flags.specs.Flags.{withNote, inAll}
 use Rattle.notes.specs.declared.Scanned.the-variants.{Notes}
 use Rattle.notes.specs.NoteList.{Reading, whole, refuses, scanned, walk}
 use Rattle.report.specs.declared.Pages.the-variants as pages
-use Rattle.report.specs.Report.{noteTicks, reported, pagesOf}
+use Rattle.report.specs.Report.{reported, pagesOf}
 
 -- A note that fits
 
@@ -29,8 +29,9 @@ pub ticks-few : (note : List ℕ) → noteFits (length note) ≡ true → ticksO
 ticks-few note e =
     let b = fits-few (length note) e in omega (arith, ticks-are note, zeros-few note, b .1)
 
-pub noteTicks-fits : (note : List ℕ) → noteFits (length note) ≡ true → noteTicks note ≡ ticksOf note
-noteTicks-fits note e = rw e
+pub lineTicks-fits : (note : List ℕ) → noteFits (length note) ≡ true → lineTicks note ≡ ticksOf note
+unfolding lineTicks
+lineTicks-fits note e = rw e
 
 -- what the zero count says of a note
 
@@ -46,8 +47,8 @@ counts note z e =
     (λ f. let g : counted.Refused NoteLength ≡ counted.Zeros z = rw f at e in apart NoteLength z g)
 
 pub counts-none : (note : List ℕ) (k : Refusal) → countOf note ≡ counted.Refused k
-    → noteTicks note ≡ 0
-unfolding countOf
+    → lineTicks note ≡ 0
+unfolding countOf lineTicks
 counts-none note k e =
     bool-or (noteFits (length note))
     (λ f.

@@ -5,7 +5,7 @@ use lib.ListN.{length}
 use denote.Ref.{now}
 use Rattle.line.specs.Laws.Frame.{ticks-are, zeros-few}
 use Rattle.line.specs.Laws.Line.{fits-few}
-use Rattle.report.specs.Laws.Ticks.{noteTicks-fits, counts, counts-none}
+use Rattle.report.specs.Laws.Ticks.{lineTicks-fits, counts, counts-none}
 use borrow.Author.Needs.{needs}
 use Rattle.report.proofs.note.note_ticks.Statement.{statement}
 use Rattle.report.proofs.note.note_ticks.Tie as tie
@@ -44,7 +44,7 @@ returns : tie.Need-returns
 returns c =
     let note = now (c .before .before .before .before .before .args .note) in
     let z = counts note _ (sym (c .before .before .before .zeros-of .ensures) ∙ c .before .z .given .1) in
-    omega (arith, z .1, ticks-are note, noteTicks-fits note (z .0))
+    omega (arith, z .1, ticks-are note, lineTicks-fits note (z .0))
 
 returns-2 : tie.Need-returns-2
 returns-2 c =
