@@ -144,7 +144,7 @@ register-sound c w p v h =
 
 -- The events of a channel
 
-abbrev SoundAnswered : Answered → Type 0
+abbrev pub SoundAnswered : Answered → Type 0
 SoundAnswered r = SoundChannel (r .channel)
 
 pub control-write-sound : (c : Channel) (w : Side) (v : ℕ) → SoundChannel c

@@ -10,7 +10,7 @@ use Rattle.channel.specs.Events.{dataRead, transmitTick}
 use Rattle.soundness.specs.Channel.{SoundChannel}
 use Rattle.soundness.specs.Laws.Channel.{reset-sound, control-write-sound, control-read-sound}
 use Rattle.soundness.specs.Laws.Channel.{data-write-sound, data-read-sound, transmit-sound}
-use Rattle.soundness.specs.Laws.Channel.{receive-sound, lines-sound}
+use Rattle.soundness.specs.Laws.Channel.{receive-sound, lines-sound, SoundAnswered}
 use Rattle.chip.specs.declared.Chip.{Chip}
 use Rattle.chip.specs.declared.Outcome.{Outcome}
 use Rattle.chip.specs.Interrupts.{anyPending, rr2, acknowledge, reti}
@@ -33,15 +33,12 @@ hard-reset-sound = (
 abbrev SoundOutcome : Outcome → Type 0
 SoundOutcome r = SoundChip (r .chip)
 
-abbrev SoundAnswer : Answered → Type 0
-SoundAnswer r = SoundChannel (r .channel)
+receive-in : (c : Channel) (bit : ℕ) → SoundChannel c → SoundAnswered (receiveIn c bit)
+receive-in c bit h = if-elim SoundAnswered (leb 2 bit) h (receive-sound c (onLevel bit) h)
 
-receive-in : (c : Channel) (bit : ℕ) → SoundChannel c → SoundAnswer (receiveIn c bit)
-receive-in c bit h = if-elim SoundAnswer (leb 2 bit) h (receive-sound c (onLevel bit) h)
-
-lines-in : (c : Channel) (dcd cts : ℕ) → SoundChannel c → SoundAnswer (linesIn c dcd cts)
+lines-in : (c : Channel) (dcd cts : ℕ) → SoundChannel c → SoundAnswered (linesIn c dcd cts)
 lines-in c dcd cts h =
-    if-elim SoundAnswer (leb 2 dcd || leb 2 cts) h
+    if-elim SoundAnswered (leb 2 dcd || leb 2 cts) h
     (lines-sound c (onLevel dcd) (onLevel cts) h)
 
 module _ (c : Chip) (h : SoundChip c) (ch : ℕ) where
@@ -49,7 +46,7 @@ module _ (c : Chip) (h : SoundChip c) (ch : ℕ) where
   each a b p q =
       if-elim SoundOutcome (eqb ch 0) {x = a} p (if-elim SoundOutcome (eqb ch 1) {x = b} q h)
 
-  alike : (call : Channel → Answered) → ((x : Channel) → SoundChannel x → SoundAnswer (call x))
+  alike : (call : Channel → Answered) → ((x : Channel) → SoundChannel x → SoundAnswered (call x))
       → SoundOutcome (inChannel c ch call)
   alike call k = each _ _ (k (c .a) (h .0), h .1) (h .0, k (c .b) (h .1))
 
