@@ -34,11 +34,12 @@ unfoldable pub computing : ℕ
 unfolding
     lowBits textBits checkStep checkOver topBits checkBits stuff fromLow pushed taken oldest rr1
     rr1Told special shapeBits bitsSent oddOver stopBits tickCharacter size bitsWith hearCharacter
-    following going tickSdlc accept push one zeroBit hearSdlc followingBlock tickBlock syncSeen hunting
-    entering arrived assembling hearBlock tick hear modeOf notBuilt lengthOf sendingOf
+    following going tickSdlc accept push one zeroBit hearSdlc followingBlock tickBlock syncSeen
+    hunting entering arrived assembling hearBlock tick hear modeOf notBuilt lengthOf sendingOf
     receivingOf changed noticed afresh liveOf settled commanded preset commandStep presetStep
     writeWr0 setWr4 setRegister controlWritten rr0 rr1Now readRegister dataRead transmitTick
     receiveTick linesSet specialWaits receivePending pendingIn highest anyOf withLevel mayTake
     acknowledged ended codeOf vectorOf pendingOf anyPending rr2 acknowledge reti controlWriteA
-    controlWriteB controlWrite controlReadCall dataWriteCall dataReadCall transmitCall receiveCall linesCall
+    controlWriteB controlWrite controlReadCall dataWriteCall dataReadCall transmitCall receiveCall
+    linesCall
 computing = 0

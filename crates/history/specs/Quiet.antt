@@ -28,7 +28,8 @@ use Rattle.channel.specs.Events.{dataWritten, dataRead, transmitTick, receiveTi
 use Rattle.chip.specs.declared.Chip.{Chip}
 use Rattle.chip.specs.declared.Outcome.{Outcome}
 use Rattle.chip.specs.Interrupts.{pendingOf, inService, acknowledge, reti}
-use Rattle.chip.specs.Chip.{refused, byChannel, inChannel, controlWriteA, controlWriteB, controlWrite}
+use Rattle.chip.specs.Chip.{refused, byChannel, inChannel, controlWriteA, controlWriteB}
+use Rattle.chip.specs.Chip.{controlWrite}
 use Rattle.chip.specs.Chip.{controlReadCall, dataWriteIn, dataWriteCall, dataReadCall, transmitCall}
 use Rattle.chip.specs.Chip.{onLevel, receiveIn, receiveCall, linesIn, linesCall}
 use Rattle.chip.specs.Event.{Event, HardReset, ControlWrite, ControlRead, DataWrite, DataRead}

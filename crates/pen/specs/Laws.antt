@@ -1,13 +1,15 @@
 -- Laws of the pen: bits put down one after another, and the room that they take. Assumes nothing.
 use mathlib.Core.Path.{_≡_, refl, sym, ap, ap₂, _∙_}
-use mathlib.Core.Bool.{Bool}
+use mathlib.Core.Bool.{Bool, true}
 use mathlib.Core.List.{List, [], _∷_, _++_}
 use Prim.Native.Nat.{ℕ, suc, _+_, _-_, _≤_, _<_}
 use native.Mathlib.Omega.{arith}
 use native.Mathlib.Nat.{add-zero}
 use borrow.Author.Tests.{le-ltb, lt-ltb}
+use lib.Dec.{ltb}
 use lib.ListN.{length, length-append, set}
 use lib.Seq.{sets, length-sets}
+use Rattle.common.specs.Tools.{ltb-elim}
 use Rattle.line.specs.Bits.{lowBits, cells}
 use Rattle.line.specs.Insertion.{stuff, runOver}
 use Rattle.line.specs.Frame.{flagBits}
@@ -71,6 +73,17 @@ put-width s xs ys =
     let run = s .pen .run in
     let both = ap length (stuff-join run xs ys) in
     omega (arith, length-append (stuff run xs) (stuff (runOver run xs) ys))
+
+-- Fewer cells than k are left from a place on, by a bound that does not hang on the place
+
+pub none-fits : (len at k : ℕ) → len < k → true ≡ ltb (len - at) k
+none-fits len at k h = sym (lt-ltb (len - at) k (omega arith))
+
+pub lacks-above : (len at k : ℕ) → 1 ≤ k → k ≤ len → ltb (len - k) at ≡ ltb (len - at) k
+lacks-above len at k h l =
+    ltb-elim (λ t. t ≡ ltb (len - at) k) (len - k) at
+    (λ m. sym (lt-ltb (len - at) k (omega arith)))
+    (λ m. sym (le-ltb (len - at) k (omega arith)))
 
 -- bytePut and flagPut, by the room that there is
 

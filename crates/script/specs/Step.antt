@@ -9,8 +9,8 @@ use Rattle.chip.specs.declared.Chip.{Chip}
 use Rattle.chip.specs.declared.Outcome.{Outcome}
 use Rattle.chip.specs.declared.Acknowledged.{Acknowledged}
 use Rattle.chip.specs.Interrupts.{acknowledge, reti}
-use Rattle.chip.specs.Chip.{hardReset, controlWrite, controlReadCall, dataWriteCall, dataReadCall}
-use Rattle.chip.specs.Chip.{transmitCall, receiveCall, linesCall}
+use Rattle.chip.specs.Chip.{outcome, hardReset, controlWrite, controlReadCall, dataWriteCall}
+use Rattle.chip.specs.Chip.{dataReadCall, transmitCall, receiveCall, linesCall}
 use Rattle.chip.specs.Event.{ackedAnswer}
 
 -- the code of each event, in the order of the sentence below; RETI's is 9
@@ -60,10 +60,10 @@ named c code x y z =
 
 -- a hard reset and a RETI are never refused and give nothing
 abbrev pub plain : Chip → Outcome
-plain c = record { answer = Done; chip = c }
+plain c = outcome Done c
 
 abbrev pub acknowledged : Acknowledged → Outcome
-acknowledged o = record { answer = ackedAnswer (o .acked); chip = o .chip }
+acknowledged o = outcome (ackedAnswer (o .acked)) (o .chip)
 
 unfoldable pub unnamed : Chip → ℕ → Outcome
 unnamed c code =

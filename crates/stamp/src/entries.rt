@@ -1,4 +1,4 @@
-// The entries of the insertion table and of the cells of four bits. Their rules are specs/Stamp.antt's, and are proved at every entry.
+// The entries of the insertion table. Their rule is specs/Stamp.antt's, and is proved at every entry.
 // For each run of ones and byte: 1 for the first of the eight bits sent first, 256 for each one of the run that is left, 2048 for the first of the
 // bits behind the eighth, 8192 for each zero inserted.
 pub const STAMPS: [u16; 1280] = [
@@ -1282,24 +1282,4 @@ pub const STAMPS: [u16; 1280] = [
     20985,
     10942,
     23165,
-];
-
-// Four bits, a byte for each.
-pub const FOURS: [u32; 16] = [
-    0,
-    1,
-    256,
-    257,
-    65536,
-    65537,
-    65792,
-    65793,
-    16777216,
-    16777217,
-    16777472,
-    16777473,
-    16842752,
-    16842753,
-    16843008,
-    16843009,
 ];

@@ -1,5 +1,6 @@
 // The insertion table: what a byte is sent as behind each run of ones, how many zeros that inserts, and the run that is left; and the cells of
 // four bits. Made here, and lent from there on. Assumes nothing.
+mod cells;
 mod entries;
 
 ghost use mathlib.Core.Path.{_≡_};
@@ -16,5 +17,5 @@ pub fn stamps() -> [u16; 1280]
 pub fn fours() -> [u32; 16]
     ensures { λ t. ⌜ t ≡ fourTable ⌝ }
 {
-    entries::FOURS
+    cells::FOURS
 }

@@ -14,9 +14,9 @@ use Rattle.soundness.specs.Laws.Channel.{receive-sound, lines-sound, Sou
 use Rattle.chip.specs.declared.Chip.{Chip}
 use Rattle.chip.specs.declared.Outcome.{Outcome}
 use Rattle.chip.specs.Interrupts.{anyPending, rr2, acknowledge, reti}
-use Rattle.chip.specs.Chip.{hardReset, byChannel, inChannel, onLevel}
-use Rattle.chip.specs.Chip.{controlWriteA, controlWriteB, controlWrite, controlReadCall, dataWriteIn}
-use Rattle.chip.specs.Chip.{dataWriteCall, dataReadCall, transmitCall}
+use Rattle.chip.specs.Chip.{hardReset, byChannel, inChannel, onLevel, controlWriteA, controlWriteB}
+use Rattle.chip.specs.Chip.{controlWrite, controlReadCall, dataWriteIn, dataWriteCall}
+use Rattle.chip.specs.Chip.{dataReadCall, transmitCall}
 use Rattle.chip.specs.Chip.{receiveIn, receiveCall, linesIn, linesCall}
 use Rattle.chip.specs.Event.{Event, HardReset, ControlWrite, ControlRead, DataWrite, DataRead}
 use Rattle.chip.specs.Event.{Transmit, Receive, SetLines, Acknowledge, Reti, step}
