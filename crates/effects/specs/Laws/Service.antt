@@ -1,6 +1,7 @@
 -- Which events change the sources in service: of those on a channel its reset, and of those on A
 -- command 7, which does what RETI does; every other, a change of mode among them, leaves them all.
--- B's change by none on A but command 7. Besides, acknowledge, RETI and hard reset. Assumes nothing.
+-- B's change by none on A but command 7. Besides, acknowledge, RETI and hard reset. Assumes
+-- nothing.
 use mathlib.Core.Path.{_≡_, refl}
 use mathlib.Core.Bool.{true, false}
 use Prim.Native.Nat.{ℕ}
