@@ -1,4 +1,6 @@
 // The check register's advance over zero bytes, by halves: a multiplication modulo the polynomial. Assumes nothing.
+#![tactic(auto)]
+
 ghost use Rattle.std.specs.Prelude.{◌≡◌};
 ghost use Rattle.common.specs.Choice.{if◌then◌else◌};
 ghost use Rattle.advance.specs.Advance.{product, advanced};

@@ -1,6 +1,8 @@
 // Known answers, read from standard input as scripts/assemble makes them of scripts/*.txt: cases, each a hard reset and a run of items. An item makes
 // one call and compares what it gives with what it must give. A line says of each case whether all its answers are right, and the last how many are.
 // All that matters is in the crate playing, and in items and calls below it.
+#![tactic(auto)]
+
 ghost use Rattle.std.specs.Prelude.{◌≡◌, length};
 ghost use Rattle.items.specs.Lines.{ended};
 ghost use Rattle.playing.specs.Playing.{played};

@@ -1,4 +1,6 @@
 // Asynchronous mode: a character sent, a character heard. Settings come decoded; it knows no other mode. Assumes nothing.
+#![tactic(auto)]
+
 mod hearing;
 mod sending;
 
@@ -10,7 +12,7 @@ use entry::Entry;
 use shared::Shared;
 
 // A character's data bits, five to eight (anything else is eight), and its parity.
-#[derive(Drop)]
+#[derive(Clone, Copy)]
 pub struct Format {
     pub length: u8,
     pub parity: bool,
@@ -18,7 +20,7 @@ pub struct Format {
 }
 
 // What registers and CTS say of sending. on: WR5 D3 and, with auto enables, CTS.
-#[derive(Drop)]
+#[derive(Clone, Copy)]
 pub struct Typing {
     pub on: bool,
     pub format: Format,
@@ -26,14 +28,14 @@ pub struct Typing {
 }
 
 // The character on the line, behind its start bit: so many bits are left to send (0: none is under way), and these, the first lowest.
-#[derive(Drop)]
+#[derive(Clone, Copy)]
 pub struct Character {
     pub left: u8,
     pub bits: u16,
 }
 
 // What a transmit tick gives; loaded: a character left the buffer.
-#[derive(Drop)]
+#[derive(Clone, Copy)]
 pub struct Typed {
     pub bit: bool,
     pub loaded: bool,
@@ -44,7 +46,7 @@ pub struct Typed {
 // A character that is heard. wait: a 1 must come before the next start. left bits are still to come, its stop bit among them (0: none is
 // under way); the byte so far, with ones where no bit has come; the weight of the next bit; whether the ones are odd in number, and
 // whether there is none; parity as set at its start.
-#[derive(Drop)]
+#[derive(Clone, Copy)]
 pub struct Assembly {
     pub wait: bool,
     pub left: u8,
@@ -57,7 +59,7 @@ pub struct Assembly {
 }
 
 // What a receive tick gives: the character, RR0 D7, and an entry for the queue, if some.
-#[derive(Drop)]
+#[derive(Clone, Copy)]
 pub struct Assembled {
     pub assembly: Assembly,
     pub broken: bool,

@@ -1,5 +1,7 @@
 // The byte-synchronous modes, Monosync and Bisync: eight bits, no parity, no zeros inserted. Settings come decoded; it knows no other mode.
 // Assumes nothing.
+#![tactic(auto)]
+
 mod hearing;
 mod inside;
 mod sending;
@@ -15,7 +17,7 @@ use line::SDLC;
 use shared::Shared;
 
 // The sync characters. both: Bisync, the sync is two; first is WR6, second WR7.
-#[derive(Drop)]
+#[derive(Clone, Copy)]
 pub struct Syncs {
     pub both: bool,
     pub first: u8,
@@ -23,7 +25,7 @@ pub struct Syncs {
 }
 
 // What is on the line. The first number: bits still to be sent; the second: what is left to shift out.
-#[derive(Drop)]
+#[derive(Clone, Copy)]
 pub enum BlockUnit {
     Mark,
     Sync(u8, u16),
@@ -33,7 +35,7 @@ pub enum BlockUnit {
 
 // What registers and CTS say of sending. on: WR5 D3 and, with auto enables, CTS; included: WR5 D0, bytes enter the check, and it is sent;
 // the check's polynomial, by WR5 D2.
-#[derive(Drop)]
+#[derive(Clone, Copy)]
 pub struct Syncing {
     pub on: bool,
     pub included: bool,
@@ -42,7 +44,7 @@ pub struct Syncing {
 }
 
 // What a transmit tick gives; loaded: a byte left the buffer.
-#[derive(Drop)]
+#[derive(Clone, Copy)]
 pub struct Synced {
     pub bit: bool,
     pub loaded: bool,
@@ -52,7 +54,7 @@ pub struct Synced {
 
 // What registers say of receiving. strip: WR3 D1, leading syncs are kept out of the queue; checking: WR3 D3, the character that waits enters
 // the check; its polynomial, by WR5 D2.
-#[derive(Drop)]
+#[derive(Clone, Copy)]
 pub struct Matching {
     pub syncs: Syncs,
     pub strip: bool,
@@ -61,7 +63,7 @@ pub struct Matching {
 }
 
 // Behind the match. leading: no character but syncs has come; turn: Bisync's next leading sync is WR7; held waits to enter the check, if have.
-#[derive(Drop)]
+#[derive(Clone, Copy)]
 pub struct Block {
     pub leading: bool,
     pub turn: bool,
@@ -71,7 +73,7 @@ pub struct Block {
 
 // hunt: no sync has come yet; the last bits that came, since hunt began or since the last character, the newest highest; count of them, in
 // hunt at most sixteen.
-#[derive(Drop)]
+#[derive(Clone, Copy)]
 pub struct Reception {
     pub count: u8,
     pub hunt: bool,
@@ -80,7 +82,7 @@ pub struct Reception {
 }
 
 // What a receive tick gives: the receiver, the check, and an entry for the queue, if some.
-#[derive(Drop)]
+#[derive(Clone, Copy)]
 pub struct Matched {
     pub reception: Reception,
     pub check: u16,

@@ -1,4 +1,6 @@
 // A byte of content put down at once, by tables that are lent, whatever they hold. Where there is no room, nothing is put down. Assumes nothing.
+#![tactic(auto)]
+
 ghost use Rattle.std.specs.Prelude.{◌≡◌, ◌+◌, ◌≤◌, ◌<◌, length};
 ghost use Rattle.std.proofs.lemmas.List.Edits.{sets};
 ghost use Rattle.imprint.specs.Imprint.{four_by, twelve_by};
@@ -7,7 +9,7 @@ ghost use Rattle.bytewise.specs.Bytewise.{plate, behind, byte_stamped, two_stamp
 use imprint::{lacks_cells, stamp_for, two_fit};
 
 // Where the next byte goes, and the row of the stamps for it: 256 for each of the ones in a row before it.
-#[derive(Drop)]
+#[derive(Clone, Copy)]
 pub struct Press {
     pub at: usize,
     pub row: usize,

@@ -1,5 +1,7 @@
 // The calls of the known answers that need no chip, each held to what its item says, and what a list must give that went through one. Assumes
 // nothing.
+#![tactic(auto)]
+
 ghost use Rattle.std.specs.Prelude.{◌≡◌};
 ghost use Rattle.calls.specs.Calls.{page, line_right, call_right, value_of};
 ghost use Rattle.calls.specs.Listed.{between_of, list_value};

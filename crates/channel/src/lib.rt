@@ -1,4 +1,6 @@
 // 01, Registers, Interrupts and external status: one channel of the chip, event by event. Any value of a channel is accepted. Assumes nothing.
+#![tactic(auto)]
+
 mod events;
 mod external;
 
@@ -15,14 +17,14 @@ use settings::{Lines, Registers};
 use status::{Live, Status};
 
 // Which of the two channels.
-#[derive(Drop)]
+#[derive(Clone, Copy)]
 pub enum Side {
     A,
     B,
 }
 
 // Its parts, and theirs, stand in the order in which its calls take the least stack and a tick the fewest instructions (bench/README.md).
-#[derive(Drop)]
+#[derive(Clone, Copy)]
 pub struct Channel {
     pub receiver: Receiver,
     pub queue: Queue,
@@ -39,14 +41,14 @@ pub struct Channel {
 }
 
 // What a call answers.
-#[derive(Drop)]
+#[derive(Clone, Copy)]
 pub enum Answer {
     Done,
     Gave(u8),
     Refused(Refusal),
 }
 
-#[derive(Drop)]
+#[derive(Clone, Copy)]
 pub struct Answered {
     pub answer: Answer,
     pub channel: Channel,

@@ -1,4 +1,6 @@
 // The chip: two channels, their interrupts, and the calls of document 01 with refusals 1 to 4 and 10. Any value of a chip is accepted. Assumes nothing.
+#![tactic(auto)]
+
 ghost use Rattle.std.specs.Prelude.{◌≡◌};
 ghost use Rattle.common.specs.declared.Refusal.TheVariants.{Channel as NoChannel};
 ghost use Rattle.chip.specs.Interrupts.{acknowledge, reti};
@@ -15,7 +17,7 @@ use settings::Lines;
 use ticking::{receive_a, receive_b, transmit_a, transmit_b};
 use vector::Acked;
 
-#[derive(Drop)]
+#[derive(Clone, Copy)]
 pub struct Chip {
     pub a: Channel,
     pub b: Channel,
@@ -24,14 +26,14 @@ pub struct Chip {
 }
 
 // What a call answers, and the chip after it.
-#[derive(Drop)]
+#[derive(Clone, Copy)]
 pub struct Outcome {
     pub answer: Answer,
     pub chip: Chip,
 }
 
 // What an acknowledge answers, and the chip after it; this stands first, so that its first part is moved with no place between.
-#[derive(Drop)]
+#[derive(Clone, Copy)]
 pub struct Acknowledged {
     pub chip: Chip,
     pub acked: Acked,

@@ -1,11 +1,13 @@
 // What every part cites: the refusals of document 01 with their numbers, a channel's mode, and a register's bits. Assumes nothing.
+#![tactic(auto)]
+
 ghost use Rattle.std.specs.Prelude.{◌≡◌, ◌≤◌};
 ghost use Rattle.common.specs.Mode.{in_sdlc, in_blocks, mode_number};
 ghost use Rattle.common.specs.Bit.{placed};
 ghost use Rattle.common.specs.Refusal.{number_of};
 
 // 01, Events: the table's rows, in its order. A refused call changes nothing and gives back only this.
-#[derive(Drop)]
+#[derive(Clone, Copy)]
 pub enum Refusal {
     // 1: channel above 1
     Channel,
@@ -50,7 +52,7 @@ impl Refusal {
 }
 
 // 01, Registers: what the last accepted WR4 chose; a reset "leaves no mode". 02, P3: Monosync and Bisync.
-#[derive(Drop)]
+#[derive(Clone, Copy)]
 pub enum Mode {
     NoMode,
     Asynchronous,

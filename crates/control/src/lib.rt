@@ -1,5 +1,7 @@
 // 01, Registers: a control write of one channel, the commands of WR0 and what a write to a register starts, on the definitions of crate channel. Any value
 // of a channel is accepted. Assumes nothing.
+#![tactic(auto)]
+
 ghost use Rattle.std.specs.Prelude.{◌≡◌};
 ghost use Rattle.common.specs.Mode.{synchronous, same_mode};
 ghost use Rattle.channel.specs.declared.Side.TheVariants.{A as OfA, B as OfB};

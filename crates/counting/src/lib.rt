@@ -1,4 +1,6 @@
 // The zeros inserted into a note's frame, counted without writing its line. Assumes nothing.
+#![tactic(auto)]
+
 ghost use Rattle.std.specs.Prelude.{◌≡◌, ◌≤◌};
 ghost use Rattle.line.specs.Bits.{low_bits};
 ghost use Rattle.tally.specs.Tally.{ones_after, closed_after, Running, tallied};

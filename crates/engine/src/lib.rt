@@ -1,5 +1,7 @@
 // The second line writer, a byte at a time: one note's frame, one bit per byte, at a place inside the caller's buffer. Its tables are made once for
 // the note; who writes many notes lends them (`lent::write_line_by`). Assumes nothing.
+#![tactic(auto)]
+
 ghost use Rattle.std.specs.Prelude.{◌≡◌};
 ghost use Rattle.line.specs.Frame.{frame};
 ghost use Rattle.writer.specs.Writer.{write_of, buffer_after};

@@ -1,11 +1,13 @@
 // An entry of the receive queue: a character with its marks, and what RR1 and the interrupts see of it. Assumes nothing.
+#![tactic(auto)]
+
 ghost use Rattle.std.specs.Prelude.{◌≡◌};
 ghost use Rattle.entry.specs.Entry.{received, no_entry, overran, rr1_with, rr1_of, special_of};
 
 use common::placed;
 
 // A character with its marks.
-#[derive(Drop)]
+#[derive(Clone, Copy)]
 pub struct Entry {
     // its parity is wrong
     pub parity: bool,

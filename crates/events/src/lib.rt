@@ -1,5 +1,7 @@
 // Events in bytes, four for each: its code and three arguments. They are played on a chip, and a run of them is told in lines: for an event seven
 // numbers, its refusal, its value, and the registers behind it; last, if not all were played, why. Assumes nothing.
+#![tactic(auto)]
+
 ghost use Rattle.std.specs.Prelude.{◌≡◌};
 ghost use Rattle.script.specs.Step.{step};
 ghost use Rattle.events.specs.Run.{found_at, last_line, behind, told_line};
@@ -9,7 +11,7 @@ use chip::{Chip, Outcome};
 use text::Line;
 
 // An event's code and arguments, and the place behind it.
-#[derive(Drop)]
+#[derive(Clone, Copy)]
 pub struct Event {
     pub code: u8,
     pub x: u8,
@@ -19,7 +21,7 @@ pub struct Event {
 }
 
 // How a run ends: all was played; an event has an unknown code, or is cut; there are more bytes than are taken.
-#[derive(Drop)]
+#[derive(Clone, Copy)]
 pub enum Ending {
     All,
     Unknown,
@@ -28,14 +30,14 @@ pub enum Ending {
 }
 
 // What stands at a place.
-#[derive(Drop)]
+#[derive(Clone, Copy)]
 pub enum Found {
     Known(Event),
     Ended(Ending),
 }
 
 // A run's next line, empty where it has ended; the chip behind it, and the place of the next event.
-#[derive(Drop)]
+#[derive(Clone, Copy)]
 pub struct Told {
     pub line: Line,
     pub chip: Chip,

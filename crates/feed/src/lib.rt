@@ -1,5 +1,7 @@
 // SDLC's sender fed with the bytes of a note, from behind the flag that opens its frame to the last bit of the closing one. It is on, with the
 // check included. Assumes nothing.
+#![tactic(auto)]
+
 mod through;
 
 ghost use Rattle.std.specs.Prelude.{◌≡◌, false, ◌≤◌, length};
@@ -16,21 +18,21 @@ use sdlc::{Framer, Framing, LineUnit, not_counted};
 use shared::Shared;
 
 // So many ticks have gone, and the sender after them.
-#[derive(Drop)]
+#[derive(Clone, Copy)]
 pub struct Run {
     pub ticks: usize,
     pub framer: Framer,
 }
 
 // The sender before a tick, and the place of the next byte to write.
-#[derive(Drop)]
+#[derive(Clone, Copy)]
 pub struct Place {
     pub framer: Framer,
     pub at: usize,
 }
 
 // The bits of a byte on their way, in numbers of their own that a loop holds in registers, and the ticks that went.
-#[derive(Drop)]
+#[derive(Clone, Copy)]
 pub struct Bits {
     pub ticks: usize,
     pub left: u8,

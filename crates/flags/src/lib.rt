@@ -1,11 +1,13 @@
 // 02, P7: how notes follow each other on the line, and how many ticks so many notes take. specs/Flags.antt has the line of a list, specs/Laws.antt
 // that it is as long as its ticks. Assumes nothing.
+#![tactic(auto)]
+
 ghost use Rattle.std.specs.Prelude.{◌≡◌, length};
 ghost use Rattle.flags.specs.declared.Between.TheVariants.{SharedFlag};
 ghost use Rattle.flags.specs.Flags.{usual, own_flag, in_all};
 
 // What stands between two notes: one flag that both closes and opens, or a closing and an opening one.
-#[derive(Drop)]
+#[derive(Clone, Copy)]
 pub enum Between {
     SharedFlag,
     TwoFlags,

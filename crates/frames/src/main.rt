@@ -1,5 +1,7 @@
 // Reads a note list from standard input and prints each note's line, flags included, as 0s and 1s, a line a note, by the byte engine: its tables
 // are made once and lent for all notes. A bad list prints `refused N` alone.
+#![tactic(auto)]
+
 use common::Refusal;
 use head::{Head, LENGTH_BYTES, head_at, note_at};
 use lent::write_line_by;

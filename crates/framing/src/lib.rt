@@ -1,4 +1,6 @@
 // 01, Sending, SDLC: the unit under way, the first bit of each, the choice of the next, and Send Abort. Assumes nothing.
+#![tactic(auto)]
+
 mod inside;
 
 ghost use Rattle.std.specs.Prelude.{◌≡◌, false, ◌-◌};

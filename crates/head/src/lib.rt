@@ -1,4 +1,6 @@
 // What stands at a place of a note list, and the text of a note as a part of the list. Assumes nothing.
+#![tactic(auto)]
+
 ghost use Rattle.std.specs.Prelude.{◌≡◌, ◌<◌, length};
 ghost use Rattle.head.specs.NoteHead.{head_of, Within, note_at};
 
@@ -9,7 +11,7 @@ use line::note_fits;
 pub const LENGTH_BYTES: usize = 2;
 
 // What stands at a place of a list: nothing more, a note of so many bytes, or a bad note.
-#[derive(Drop)]
+#[derive(Clone, Copy)]
 pub enum Head {
     End,
     Note(usize),

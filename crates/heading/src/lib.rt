@@ -1,4 +1,6 @@
 // A printed heading, whose check is worked out once, and the checks of the notes that begin with it. Assumes nothing.
+#![tactic(auto)]
+
 ghost use Rattle.std.specs.Prelude.{◌≡◌, ◌+◌};
 ghost use Rattle.line.specs.Line.{note_fits};
 ghost use Rattle.heading.specs.Heading.{heading_of, with_body, with_checked_body};
@@ -8,14 +10,14 @@ use joining::{CheckRule, check_of, check_text, joined};
 use line::{LONGEST_NOTE, ONES, SDLC, note_fits};
 
 // The check of a note, as SDLC sends it, or why it has none.
-#[derive(Drop)]
+#[derive(Clone, Copy)]
 pub enum NoteCheck {
     Check(u16),
     Refused(Refusal),
 }
 
 // What notes begin with: its check, as SDLC sends it, and its bytes.
-#[derive(Drop)]
+#[derive(Clone, Copy)]
 pub struct Heading {
     pub check: u16,
     pub length: usize,

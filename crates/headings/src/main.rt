@@ -2,6 +2,8 @@
 // bytes of heading and body together, and the check of the two as SDLC sends it, three times: gone on with from the heading's check, joined from the
 // heading's check and the body's, and worked out whole. The first bit sent is the lowest, as 906E is the check of 123456789. Where heading and body
 // together are no note, its refusal stands for the first two. Last `end` and the number of bodies. A bad list prints `refused N` alone.
+#![tactic(auto)]
+
 use common::Refusal;
 use head::{Head, LENGTH_BYTES, head_at, note_at};
 use heading::{Heading, NoteCheck};

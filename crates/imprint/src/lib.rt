@@ -1,5 +1,7 @@
 // The stamp of a byte, by a table that is lent, whatever it holds, and the room for its cells.
 // Assumes nothing.
+#![tactic(auto)]
+
 ghost use Rattle.std.specs.Prelude.{◌≡◌, ◌&&◌, ◌+◌, ◌-◌, ◌≤◌, ◌<◌, leb, ltb};
 ghost use Rattle.imprint.specs.Imprint.{stamp_for, stamp_room};
 

@@ -1,5 +1,7 @@
 // 01, Interrupts: a channel's sources, their priority, acknowledge and RETI. It knows no channel and no chip: which of the six sources are pending
 // and which in service is told. Assumes nothing.
+#![tactic(auto)]
+
 ghost use Rattle.std.specs.Prelude.{◌≡◌};
 ghost use Rattle.interrupts.specs.Interrupts.{no_sources, with_source, no_six, highest, any_of, with_level, may_take, acknowledged, ended};
 
@@ -10,7 +12,7 @@ const NO_LEVEL: u8 = 6;
 const FIRST_OF_B: u8 = 3;
 
 // A channel's three interrupt sources, highest first.
-#[derive(Drop)]
+#[derive(Clone, Copy)]
 pub struct Sources {
     pub receive: bool,
     pub transmit: bool,
@@ -18,7 +20,7 @@ pub struct Sources {
 }
 
 // Those of both channels.
-#[derive(Drop)]
+#[derive(Clone, Copy)]
 pub struct Six {
     pub a: Sources,
     pub b: Sources,

@@ -1,6 +1,8 @@
 // Known answers in bytes, as scripts/assemble makes them: items, read one by one, and the sheet on which they are judged. An item makes one call
 // and says what it must give, or has bytes for the next call, or ends a case. What is told, a line for each case and a last one, is put into a
 // buffer that is lent. Assumes nothing.
+#![tactic(auto)]
+
 mod cells;
 mod desk;
 mod lines;
@@ -20,7 +22,7 @@ use crate::lines::tell;
 
 // An item of eight bytes: its kind, three arguments, and what it must give, a refusal's number and a value of three bytes. Bytes may stand behind
 // it, from a place to a place, which is the next item's.
-#[derive(Drop)]
+#[derive(Clone, Copy)]
 pub struct Item {
     pub kind: u8,
     pub x: u8,
@@ -218,7 +220,7 @@ fn item_at(bytes: &[u8], at: usize) -> Item
 
 // The item that was read last; the ends of the bytes for the next call and of those that it must leave, which stand behind them on the desk;
 // whether the case is right so far; the cases, and those that were; the end of what has been told.
-#[derive(Drop)]
+#[derive(Clone, Copy)]
 pub struct Sheet {
     pub item: Item,
     pub given: usize,

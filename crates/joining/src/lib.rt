@@ -1,4 +1,6 @@
 // The checks of SDLC and of the byte-synchronous modes by one rule, of a text and of texts that are put together. Assumes nothing.
+#![tactic(auto)]
+
 ghost use Rattle.std.specs.Prelude.{◌≡◌};
 ghost use Rattle.line.specs.Bits.{text_bits};
 ghost use Rattle.line.specs.Check.{check_over};
@@ -10,7 +12,7 @@ use bytesync::polynomial_of;
 use line::{ONES, SDLC, check_byte};
 
 // How a check is made: its polynomial, what the register starts from, and what is turned over in it when it is sent.
-#[derive(Drop)]
+#[derive(Clone, Copy)]
 pub struct CheckRule {
     pub polynomial: u16,
     pub preset: u16,

@@ -1,4 +1,6 @@
 // A note's frame laid out in a lent buffer, from its start, a byte at a time, by tables that are lent, whatever they hold. Assumes nothing.
+#![tactic(auto)]
+
 ghost use Rattle.std.specs.Prelude.{◌≡◌};
 ghost use Rattle.laid.specs.Laid.{end_stamped, frame_stamped};
 

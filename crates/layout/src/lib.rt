@@ -1,4 +1,6 @@
 // A note's frame laid out in a lent buffer, from its start, as far as there is room. Assumes nothing.
+#![tactic(auto)]
+
 ghost use Rattle.std.specs.Prelude.{◌≡◌};
 ghost use Rattle.line.specs.Check.{ones};
 ghost use Rattle.line.specs.Frame.{with_check};
@@ -10,7 +12,7 @@ use mirror::mirrored_byte;
 use pen::{Pen, put_byte, put_flag};
 
 // Where a text ends, and the mirrored check register over it.
-#[derive(Drop)]
+#[derive(Clone, Copy)]
 struct Text {
     pen: Pen,
     m: u16,

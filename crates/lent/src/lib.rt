@@ -1,4 +1,6 @@
 // The line writer by whole bytes, with tables that are lent, whatever they hold: for many notes they are made once. Assumes nothing.
+#![tactic(auto)]
+
 ghost use Rattle.std.specs.Prelude.{◌≡◌, true, ◌++◌, ◌≤◌, length, take, drop};
 ghost use Rattle.line.specs.Line.{note_fits};
 ghost use Rattle.laid.specs.Laid.{frame_stamped};

@@ -1,4 +1,6 @@
 // What a line is made of: the check register, zero insertion, and which notes have a frame. Assumes nothing.
+#![tactic(auto)]
+
 ghost use Rattle.std.specs.Prelude.{◌≡◌, ◌*◌};
 ghost use Rattle.line.specs.Bits.{low_bits, one_if};
 ghost use Rattle.line.specs.Check.{check_step, check_over};
@@ -44,7 +46,7 @@ pub fn check_byte(p: u16, r: u16, v: u8) -> u16
 }
 
 // Where zero insertion stands behind a bit of content: the ones in a row, and whether a 0 is owed, to be sent next.
-#[derive(Drop)]
+#[derive(Clone, Copy)]
 pub struct Insertion {
     pub run: u8,
     pub owed: bool,

@@ -1,4 +1,6 @@
 // 01, Receiving, SDLC: flags, aborts, the seven-bit delay, characters and their check, address search. Assumes nothing.
+#![tactic(auto)]
+
 mod within;
 
 ghost use Rattle.std.specs.Prelude.{◌≡◌, ◌≤◌};

@@ -1,4 +1,6 @@
 // A byte enters the mirrored check register by a look into a table that is lent, whatever it holds. Assumes nothing.
+#![tactic(auto)]
+
 ghost use Rattle.std.specs.Prelude.{◌≡◌};
 ghost use Rattle.lookup.specs.Lookup.{looked_up};
 

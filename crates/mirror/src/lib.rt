@@ -1,4 +1,6 @@
 // The SDLC check's register held mirrored, x^15 lowest: a byte then enters it at once. Assumes nothing.
+#![tactic(auto)]
+
 ghost use Rattle.std.specs.Prelude.{◌≡◌};
 ghost use Rattle.mirror.specs.Mirror.{mirrored_byte};
 

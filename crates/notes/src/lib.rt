@@ -1,4 +1,6 @@
 // The note list: the check of a whole list. Assumes nothing.
+#![tactic(auto)]
+
 ghost use Rattle.notes.specs.Scanned.{scanned_number, scanned_notes};
 ghost use Rattle.std.specs.Prelude.{◌≡◌};
 ghost use Rattle.notes.specs.NoteList.{read_list, scanned};
@@ -14,7 +16,7 @@ pub const FIRST_NOTE: usize = 1;
 pub const LONGEST_LIST: usize = 65535;
 
 // A whole list: how many notes it has, or why it is refused.
-#[derive(Drop)]
+#[derive(Clone, Copy)]
 pub enum Scanned {
     Notes(usize),
     Refused(Refusal),

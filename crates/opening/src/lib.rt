@@ -1,6 +1,8 @@
 // A station opens a note's frame on channel A of a chip, whatever that was doing: a flag has ended, the check is preset, the latch cleared and the
 // first byte written. Its SDLC sender, fed on its own from there on, is put back. A function holds one chip and writes it over: a second one is dear
 // to prove. Assumes nothing.
+#![tactic(auto)]
+
 mod calling;
 mod putback;
 mod ready;

@@ -1,5 +1,7 @@
 // A pen over a lent buffer, one bit to a cell: content with its inserted zeros, byte by byte, and flags. Where there is no room, nothing is
 // put down. Assumes nothing.
+#![tactic(auto)]
+
 ghost use Rattle.std.specs.Prelude.{◌≡◌, [], ◌∷◌, ◌+◌, ◌-◌, ◌≤◌, ltb, length};
 ghost use Rattle.line.specs.Bits.{odd};
 ghost use Rattle.line.specs.Insertion.{stuff};
@@ -8,7 +10,7 @@ ghost use Rattle.pen.specs.Pen.{sheet, bits_put, byte_cells, byte_put, flag_put}
 use line::Insertion;
 
 // Where the next bit goes, and how many ones in a row went before it.
-#[derive(Drop)]
+#[derive(Clone, Copy)]
 pub struct Pen {
     pub at: usize,
     pub run: u8,

@@ -1,4 +1,6 @@
 // Known answers played on a chip, item by item, and what is told of them. Assumes nothing.
+#![tactic(auto)]
+
 mod list;
 
 ghost use Rattle.std.specs.Prelude.{◌≡◌};

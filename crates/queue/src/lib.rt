@@ -1,11 +1,13 @@
 // The receive queue of a channel: three entries, RR1's two latches beside them, and what RR1 and the interrupts see of it. Assumes nothing.
+#![tactic(auto)]
+
 ghost use Rattle.std.specs.Prelude.{◌≡◌};
 ghost use Rattle.queue.specs.Queue.{empty, pushed, taken, oldest, waits, error_reset, rr1, rr1_told, special};
 
 use entry::Entry;
 
 // The entries, oldest first; count of them wait. parity and overrun are RR1's latches D4 and D5.
-#[derive(Drop)]
+#[derive(Clone, Copy)]
 pub struct Queue {
     pub count: u8,
     pub entries: [Entry; 3],

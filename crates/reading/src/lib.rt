@@ -1,4 +1,6 @@
 // 01, Registers: what a control read gives, and the interrupts of two channels. Any value of a channel is accepted. Assumes nothing.
+#![tactic(auto)]
+
 mod both;
 mod sources;
 
@@ -17,7 +19,7 @@ use interrupts::Six;
 use vector::Acked;
 
 // What an acknowledge answers, and the sources in service after it.
-#[derive(Drop)]
+#[derive(Clone, Copy)]
 pub struct Taking {
     pub acked: Acked,
     pub service: Six,

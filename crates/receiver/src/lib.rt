@@ -1,4 +1,6 @@
 // 01, Receiving: one channel's receiver: which mode hears, off, RR0 D7, and what is handed to the queue. Settings come decoded. Assumes nothing.
+#![tactic(auto)]
+
 ghost use Rattle.std.specs.Prelude.{◌≡◌};
 ghost use Rattle.receiver.specs.Receiver.{listener_of, listener_in, reception_in, by_listener, by_assembly, by_matched, silent};
 ghost use Rattle.receiver.specs.Receiver.{hear_in_characters, hear_in_blocks, hear_in_frames};
@@ -13,7 +15,7 @@ use sdlc::{Addressing, Content, Listened, Listener};
 use shared::preset_for;
 
 // A channel's settings as a tick finds them. on: WR3 D0 and, with auto enables, DCD.
-#[derive(Drop)]
+#[derive(Clone, Copy)]
 pub struct Receiving {
     pub mode: Mode,
     pub on: bool,
@@ -24,7 +26,7 @@ pub struct Receiving {
 
 // The asynchronous character, what SDLC has heard of a frame, what Monosync and Bisync have heard of a block, and what all modes share: the
 // check, and RR0 D7. In the order that ticks like (channel's Channel).
-#[derive(Drop)]
+#[derive(Clone, Copy)]
 pub struct Receiver {
     pub assembly: Assembly,
     pub content: Content,
@@ -34,7 +36,7 @@ pub struct Receiver {
 }
 
 // What a tick gives: the receiver, and an entry for the queue, if some.
-#[derive(Drop)]
+#[derive(Clone, Copy)]
 pub struct Heard {
     pub receiver: Receiver,
     pub some: bool,

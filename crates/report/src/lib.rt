@@ -1,6 +1,8 @@
 // What sending a list tells: the report's definitions (specs/Report.antt), and the page timer, which counts a list's ticks without a chip,
 // its notes sharing their flags.
 // Assumes nothing.
+#![tactic(auto)]
+
 mod note;
 
 ghost use Rattle.report.specs.Pages.{pages_number, pages_ticks};
@@ -18,7 +20,7 @@ use head::{LENGTH_BYTES, note_at};
 use notes::{FIRST_NOTE, Scanned, scan};
 
 // The page timer's answer: as many ticks as the list takes, or why it is refused.
-#[derive(Drop)]
+#[derive(Clone, Copy)]
 pub enum Pages {
     Ticks(usize),
     Refused(Refusal),

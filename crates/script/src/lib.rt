@@ -1,5 +1,7 @@
 // The events of 01 by their codes, and what a host sees of one: its refusal, the value that it gave, and the registers behind it.
 // Assumes nothing.
+#![tactic(auto)]
+
 ghost use Rattle.std.specs.Prelude.{◌≡◌};
 ghost use Rattle.chip.specs.Interrupts.{acknowledge};
 ghost use Rattle.chip.specs.Event.{acked_answer};

@@ -1,6 +1,8 @@
 // SDLC: units, zero insertion, flags; what lies between two flags, its delay, characters and address. Settings come decoded; it knows no
 // other mode. Its parts and its definitions stand here; its sending and its receiving are coded beside it, in framing and listening.
 // Assumes nothing.
+#![tactic(auto)]
+
 ghost use Rattle.std.specs.Prelude.{◌≡◌};
 ghost use Rattle.sdlc.specs.Sending.{not_counted, aborting, checking};
 ghost use Rattle.sdlc.specs.Within.{byte_left, byte_rest};
@@ -11,7 +13,7 @@ use line::Insertion;
 use shared::Shared;
 
 // What is on the line. The first number: bits still to be sent; the second: what is left to shift out.
-#[derive(Drop)]
+#[derive(Clone, Copy)]
 pub enum LineUnit {
     Mark,
     Flag(u8),
@@ -21,14 +23,14 @@ pub enum LineUnit {
 }
 
 // What registers and CTS say of sending. on: WR5 D3 and, with auto enables, CTS; included: WR5 D0, bytes enter the check, and it is sent.
-#[derive(Drop)]
+#[derive(Clone, Copy)]
 pub struct Framing {
     pub on: bool,
     pub included: bool,
 }
 
 // SDLC's sender: its unit, its zero insertion, and what it shares with other modes.
-#[derive(Drop)]
+#[derive(Clone, Copy)]
 pub struct Framer {
     pub unit: LineUnit,
     pub insertion: Insertion,
@@ -36,7 +38,7 @@ pub struct Framer {
 }
 
 // What a transmit tick gives; loaded: a byte left the buffer.
-#[derive(Drop)]
+#[derive(Clone, Copy)]
 pub struct Framed {
     pub bit: bool,
     pub loaded: bool,
@@ -44,14 +46,14 @@ pub struct Framed {
 }
 
 // What registers say of address search: WR3 D2 and WR6.
-#[derive(Drop)]
+#[derive(Clone, Copy)]
 pub struct Addressing {
     pub search: bool,
     pub address: u8,
 }
 
 // Behind the delay: count bits of a character in part; a whole one held, if have.
-#[derive(Drop)]
+#[derive(Clone, Copy)]
 pub struct Chars {
     pub count: u8,
     pub part: u8,
@@ -61,7 +63,7 @@ pub struct Chars {
 
 // What lies between two flags. hunt: no flag has come yet; skip: the frame is dropped until a flag; ones in a row on the line;
 // the bits in the delay under a leading one.
-#[derive(Drop)]
+#[derive(Clone, Copy)]
 pub struct Content {
     pub hunt: bool,
     pub skip: bool,
@@ -71,7 +73,7 @@ pub struct Content {
 }
 
 // SDLC's receiver: what it has heard of the frame, and what it shares with other modes, the check and RR0 D7.
-#[derive(Drop)]
+#[derive(Clone, Copy)]
 pub struct Listener {
     pub content: Content,
     pub check: u16,
@@ -79,7 +81,7 @@ pub struct Listener {
 }
 
 // What a receive tick gives: the receiver, and an entry for the queue, if some.
-#[derive(Drop)]
+#[derive(Clone, Copy)]
 pub struct Listened {
     pub listener: Listener,
     pub some: bool,

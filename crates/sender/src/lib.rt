@@ -1,4 +1,6 @@
 // 01, Sending: one channel's sender. What all modes share stands here once; the mode says which of them ticks. Assumes nothing.
+#![tactic(auto)]
+
 ghost use Rattle.std.specs.Prelude.{◌≡◌, true, false};
 ghost use Rattle.sender.specs.Sender.{ticked, framer_of, framer_in, by_framer, by_typist, by_syncing, with_break, tick};
 ghost use Rattle.sender.specs.Sender.{with_shared, block_in, tick_in_sdlc, tick_in_blocks, written, aborted, check_preset, latch_cleared, idled, at_reset, all_sent, buffer_ready};
@@ -12,7 +14,7 @@ use shared::{Shared, preset_for};
 
 // What all modes share, the asynchronous character, SDLC's unit and zero insertion, and the unit of Monosync and Bisync, in the order that ticks
 // like (channel's Channel).
-#[derive(Drop)]
+#[derive(Clone, Copy)]
 pub struct Sender {
     pub shared: Shared,
     pub character: Character,
@@ -22,7 +24,7 @@ pub struct Sender {
 }
 
 // What registers and CTS say of sending. broken: WR5 D4.
-#[derive(Drop)]
+#[derive(Clone, Copy)]
 pub struct Sending {
     pub mode: Mode,
     pub broken: bool,
@@ -32,7 +34,7 @@ pub struct Sending {
 }
 
 // What a tick gives; loaded: a byte or a character left the buffer.
-#[derive(Drop)]
+#[derive(Clone, Copy)]
 pub struct Ticked {
     pub bit: bool,
     pub loaded: bool,

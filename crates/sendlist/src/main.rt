@@ -1,6 +1,8 @@
 // Reads a note list from standard input, checks it, sends its notes through a chip, and prints for each its number, bytes, zeros inserted
 // and ticks; last the notes and the ticks in all. A bad list prints its refusal alone. Between two notes it sends a closing and an opening flag, and
 // with the word --shared one flag that is both. All that matters is in the crate station.
+#![tactic(auto)]
+
 ghost use Rattle.std.specs.Prelude.{◌≡◌, ◌+◌, ◌≤◌, length};
 
 use chip::Chip;

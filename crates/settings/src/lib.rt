@@ -1,4 +1,6 @@
 // 01, Registers: the write registers as written, and what they say. Each bit is named once. Assumes nothing.
+#![tactic(auto)]
+
 ghost use Rattle.std.specs.Prelude.{◌≡◌};
 ghost use Rattle.settings.specs.Settings.{pointer_in, command_in, preset_in, external_on, transmit_on, status_affects, receive_mode, enters_hunt, breaks};
 ghost use Rattle.settings.specs.Settings.{auto_enables, stop_field, synchronous_field, check_included};
@@ -13,7 +15,7 @@ use sdlc::{Addressing, Framing};
 use sender::Sending;
 
 // WR1 to WR7 as they were written; WR2 in channel B alone. The mode is what the last WR4 chose, none since a reset.
-#[derive(Drop)]
+#[derive(Clone, Copy)]
 pub struct Registers {
     pub mode: Mode,
     pub wr7: u8,
@@ -26,7 +28,7 @@ pub struct Registers {
 }
 
 // The two inputs of a channel beside its line; true is on.
-#[derive(Drop)]
+#[derive(Clone, Copy)]
 pub struct Lines {
     pub dcd: bool,
     pub cts: bool,

@@ -1,4 +1,6 @@
 // 01, Sending, Asynchronous, with 02, P1: what a character of a length sends of a byte, and its parity. Assumes nothing.
+#![tactic(auto)]
+
 ghost use Rattle.std.specs.Prelude.{◌≡◌};
 ghost use Rattle.shapes.specs.Shapes.{shape_bits};
 ghost use Rattle.shapes.specs.Sent.{bits_sent, parity_of};

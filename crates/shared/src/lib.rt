@@ -1,4 +1,6 @@
 // 01, Sending: what the senders of all modes share, the buffer, the underrun latch and the check; and what presets a check. Assumes nothing.
+#![tactic(auto)]
+
 ghost use Rattle.std.specs.Prelude.{◌≡◌};
 ghost use Rattle.shared.specs.Preset.{preset_for};
 ghost use Rattle.shared.specs.Shared.{shared_at_reset, filled, emptied, latched, cleared, check_set, entered};
@@ -7,7 +9,7 @@ use common::{Mode, in_blocks};
 use line::{ONES, check_byte};
 
 // latch: Underrun/EOM, RR0 D6.
-#[derive(Drop)]
+#[derive(Clone, Copy)]
 pub struct Shared {
     pub full: bool,
     pub buffer: u8,

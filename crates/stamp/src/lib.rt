@@ -1,5 +1,7 @@
 // The insertion table: what a byte is sent as behind each run of ones, how many zeros that inserts, and the run that is left; and the cells of
 // four bits. Made here, and lent from there on. Assumes nothing.
+#![tactic(auto)]
+
 mod cells;
 mod entries;
 

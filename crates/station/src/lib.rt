@@ -1,5 +1,7 @@
 // The planner's side: a station sends notes through channel A of a chip, a list note by note. Any chip is accepted, whatever its channel A was
 // doing. Assumes nothing.
+#![tactic(auto)]
+
 mod fitting;
 mod walk;
 
@@ -21,14 +23,14 @@ use notes::{Scanned, scan};
 pub use told::{Listed, Told};
 
 // A note was sent, and the chip after it.
-#[derive(Drop)]
+#[derive(Clone, Copy)]
 pub struct Sent {
     pub told: Told,
     pub chip: Chip,
 }
 
 // A list was sent, and the chip after it.
-#[derive(Drop)]
+#[derive(Clone, Copy)]
 pub struct ListSent {
     pub listed: Listed,
     pub chip: Chip,

@@ -13,7 +13,7 @@ use notes::{FIRST_NOTE, Scanned};
 use told::{Listed, Told};
 
 // How far a list has gone: of all its notes so many, the place of the next one, and the sum of their ticks; and whether rows are told.
-#[derive(Drop)]
+#[derive(Clone, Copy)]
 pub(crate) struct Walk {
     pub(crate) all: usize,
     pub(crate) told: bool,

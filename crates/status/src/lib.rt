@@ -1,9 +1,11 @@
 // 01, Interrupts and external status: D7 to D3 of RR0, latched together at a change. Assumes nothing.
+#![tactic(auto)]
+
 ghost use Rattle.std.specs.Prelude.{◌≡◌};
 ghost use Rattle.status.specs.Status.{quiet_live, changed, noticed, shown_bits, afresh};
 
 // The five bits of RR0 that are latched together: D7 to D3.
-#[derive(Drop)]
+#[derive(Clone, Copy)]
 pub struct Live {
     pub abort: bool,
     pub underrun: bool,
@@ -13,7 +15,7 @@ pub struct Live {
 }
 
 // External status: whether it is latched, and what it then shows.
-#[derive(Drop)]
+#[derive(Clone, Copy)]
 pub struct Status {
     pub latched: bool,
     pub shown: Live,

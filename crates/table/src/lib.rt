@@ -1,4 +1,6 @@
 // The check's table: a byte of the note enters the mirrored register by one look into it. Made here, and lent from there on. Assumes nothing.
+#![tactic(auto)]
+
 mod entries;
 
 ghost use Rattle.std.specs.Prelude.{◌≡◌};

@@ -1,4 +1,6 @@
 // A note's content put down a byte at a time behind the opening flag, by tables that are lent, whatever they hold. Assumes nothing.
+#![tactic(auto)]
+
 ghost use Rattle.std.specs.Prelude.{◌≡◌, ◌≤◌, length};
 ghost use Rattle.lookup.specs.Lookup.{sent_check};
 ghost use Rattle.bytewise.specs.Bytewise.{plate};
@@ -12,7 +14,7 @@ use lookup::looked_up;
 const PRESET: usize = 0xFFFF;
 
 // How far a note's content has come: the press, the check's register, and which byte is next.
-#[derive(Drop)]
+#[derive(Clone, Copy)]
 struct Going {
     press: Press,
     check: usize,

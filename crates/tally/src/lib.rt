@@ -1,11 +1,13 @@
 // Ones counted in fives: a tally. What bits and bytes of content make of it stands in specs/.
 // Assumes nothing.
+#![tactic(auto)]
+
 ghost use Rattle.std.specs.Prelude.{◌≡◌};
 ghost use Rattle.tally.specs.Tally.{top_ones};
 
 // Behind each five that is closed a zero is inserted, and the ones beyond the closed fives are the
 // run.
-#[derive(Drop)]
+#[derive(Clone, Copy)]
 pub struct Tally {
     pub ones: usize,
     pub closed: usize,

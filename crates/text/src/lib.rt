@@ -1,4 +1,6 @@
 // A line of text, put together byte by byte: what does not fit is left away. Assumes nothing.
+#![tactic(auto)]
+
 ghost use Rattle.std.specs.Prelude.{◌≡◌};
 ghost use Rattle.text.specs.Text.{empty_line, with, with_all, digit_of, decimal, numbered};
 
@@ -6,7 +8,7 @@ ghost use Rattle.text.specs.Text.{empty_line, with, with_all, digit_of, decimal,
 pub const LONGEST: usize = 28;
 
 // A line: its bytes, and how many of them count.
-#[derive(Drop)]
+#[derive(Clone, Copy)]
 pub struct Line {
     pub text: [u8; LONGEST],
     pub size: usize,

@@ -1,6 +1,8 @@
 // The ticks of a chip's channels. Most lie inside a byte or a character, where nothing but the sender or the receiver changes: these are made in a
 // form of their own. Channel A and channel B each have their own function, word for word: what one place alone calls, the back end makes part of
 // its caller, and a tick takes a third fewer instructions (bench/README.md). Assumes nothing.
+#![tactic(auto)]
+
 mod within;
 
 ghost use Rattle.std.specs.Prelude.{◌≡◌};

@@ -1,5 +1,7 @@
 // What a station answers, to a note and to a list, without the chip that it hands back: the paper's number of a refusal, 0 for none, and the values.
 // Assumes nothing.
+#![tactic(auto)]
+
 ghost use Rattle.std.specs.Prelude.{◌≡◌};
 ghost use Rattle.told.specs.Answers.{told_number, told_zeros, told_ticks};
 ghost use Rattle.told.specs.Answers.{listed_number, listed_notes, listed_ticks};
@@ -7,7 +9,7 @@ ghost use Rattle.told.specs.Answers.{listed_number, listed_notes, listed_ticks};
 use common::Refusal;
 
 // What sending a note comes to: the zeros inserted and the ticks with both flags, or why it was not sent.
-#[derive(Drop)]
+#[derive(Clone, Copy)]
 pub enum Told {
     Gone { zeros: usize, ticks: usize },
     Refused(Refusal),
@@ -46,7 +48,7 @@ impl Told {
 }
 
 // What sending a list comes to: how many notes and how many ticks in all, or why it is refused.
-#[derive(Drop)]
+#[derive(Clone, Copy)]
 pub enum Listed {
     All { notes: usize, ticks: usize },
     Refused(Refusal),

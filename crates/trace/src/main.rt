@@ -1,5 +1,7 @@
 // Reads events from standard input, four bytes each, plays them on a chip and prints a line for each. All that matters is in the crates chip,
 // script and events.
+#![tactic(auto)]
+
 use chip::Chip;
 use text::Line;
 

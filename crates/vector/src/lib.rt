@@ -1,18 +1,20 @@
 // 01, Interrupts: the vector of a source, and what an acknowledge answers. The source's level is crate interrupts' number for it. Assumes nothing.
+#![tactic(auto)]
+
 ghost use Rattle.std.specs.Prelude.{◌≡◌};
 ghost use Rattle.vector.specs.Vector.{code_of, vector_of, acked_number, acked_value};
 
 use common::Refusal;
 
 // Whether A's receive is special, and B's.
-#[derive(Drop)]
+#[derive(Clone, Copy)]
 pub struct Special {
     pub a: bool,
     pub b: bool,
 }
 
 // What an acknowledge answers: a vector, or refusal 4.
-#[derive(Drop)]
+#[derive(Clone, Copy)]
 pub enum Acked {
     Vector(u8),
     NothingWaits,

@@ -1,1 +1,3 @@
 // SDLC's whole frames: what is to come on the line, what was heard of it. Definitions and laws alone. Assumes nothing.
+#![tactic(auto)]
+

@@ -1,4 +1,6 @@
 // The line writer: one note's frame, one bit per byte, at a place inside the caller's buffer. Assumes nothing.
+#![tactic(auto)]
+
 ghost use Rattle.std.specs.Prelude.{◌≡◌, ◌++◌, ◌≤◌, length, drop};
 ghost use Rattle.line.specs.Bits.{cells};
 ghost use Rattle.line.specs.Frame.{frame, zeros_of, ticks_of};

@@ -1,4 +1,6 @@
 // The number of zeros inserted into a note's frame, and whether its line is too long for so many bytes. Assumes nothing.
+#![tactic(auto)]
+
 ghost use Rattle.zeros.specs.Counted.{counted_number, counted_zeros};
 ghost use Rattle.std.specs.Prelude.{◌≡◌, ltb};
 ghost use Rattle.zeros.specs.Zeros.{count_of, line_ticks};
@@ -8,7 +10,7 @@ use counting::count;
 use line::note_fits;
 
 // How many zeros were inserted, or why there is no line.
-#[derive(Drop)]
+#[derive(Clone, Copy)]
 pub enum Counted {
     Zeros(usize),
     Refused(Refusal),
