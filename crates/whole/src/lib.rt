@@ -1,3 +1,2 @@
 // SDLC's whole frames: what is to come on the line, what was heard of it. Definitions and laws alone. Assumes nothing.
 #![tactic(auto)]
-

@@ -1,0 +1,14 @@
+-- `advance::product` meets its contract: the sum and the product of what is left is the whole product. Assumes nothing.
+use mathlib.Core.Path.{◌≡◌, sym, ap, ◌∙◌}
+use Prim.Native.Nat.{◌<◌}
+use native.Mathlib.Omega.{arith}
+use lib.Bits.{bit_xor, xor_zero_l, xor_zero_r}
+use Rattle.advance.specs.Advance.{product}
+use Rattle.advance.specs.Laws.Advance.{product_none, product_step}
+use Rattle.advance.proofs.product.Given as goal
+
+abbrev pub invariant-loop-rest : goal.invariant-loop-rest
+invariant-loop-rest l = (l.rest < 65536) × (bit_xor l.sum (product l.p l.power l.rest) ≡ product l.p l.a l.b)
+
+abbrev pub decreases-loop-rest : goal.decreases-loop-rest
+decreases-loop-rest l = l.rest

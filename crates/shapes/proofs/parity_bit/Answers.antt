@@ -1,0 +1,28 @@
+-- `shapes::parity_bit` meets its contract: what the bits left make of the present parity is what all of them make of the first. Assumes nothing.
+use mathlib.Core.Path.{◌≡◌, refl}
+use native.Mathlib.Omega.{arith}
+use Rattle.line.specs.Bits.{low_bits}
+use Rattle.shapes.specs.Sent.{odd_over}
+use Rattle.line.specs.Laws.Bits.{low_step, low_none}
+use Rattle.shapes.proofs.parity_bit.Goals as goal
+
+pub loop-left-init : goal.loop-left-init
+loop-left-init c = refl
+
+pub overflow_sub-left : goal.overflow_sub-left
+overflow_sub-left c = omega arith
+
+pub loop-left-smaller : goal.loop-left-smaller
+loop-left-smaller c = omega arith
+
+pub loop-left-preserved : goal.loop-left-preserved
+unfolding odd_over
+loop-left-preserved c =
+    let l = c.loop-left in
+    simp (low_step l.left l.rest c.loop-left-test.true) at l.invariant
+
+pub returns : goal.returns
+unfolding odd_over
+returns c =
+    let l = c.loop-left in
+    rw (← c.bits_sent-left.ensures) (simp (low_none l.left l.rest c.loop-left-test.false) at l.invariant)
