@@ -1,7 +1,6 @@
 -- `asynchronous::Assembly::hear` meets its contract: each return by the facts on its way. Assumes nothing.
 use Rattle.asynchronous.proofs.Branch.{tests}
 use Rattle.asynchronous.specs.Hearing.{hear_character}
-use borrow.Author.Rules.{rules}
 use Rattle.asynchronous.proofs.Assembly.hear.Goals as goal
 
 pub returns-then-b : goal.returns-then-b

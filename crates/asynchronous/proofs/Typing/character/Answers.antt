@@ -3,7 +3,6 @@ use native.Mathlib.Omega.{arith}
 use Rattle.shapes.specs.Laws.Sent.{bits_least, bits_most}
 use Rattle.asynchronous.specs.Laws.Character.{stops_most}
 use Rattle.asynchronous.proofs.Laws.{ones_most, bit_most, with_parity_lem, without_parity}
-use borrow.Author.Rules.{rules}
 use Rattle.asynchronous.proofs.Typing.character.Goals as goal
 
 pub overflow_add-result : goal.overflow_add-result
@@ -33,7 +32,7 @@ pub overflow_add-result-2 : goal.overflow_add-result-2
 overflow_add-result-2 c = omega (arith, c.bits_sent-n.ensures, bits_most c.args.self.format.length c.args.v, c.stop_count-count.ensures, stops_most c.args.self.stops)
 
 pub above-requires-2 : goal.above-requires-2
-above-requires-2 c = (omega (arith, c.bits_sent-n.ensures, bits_least c.args.self.format.length c.args.v), omega (arith, c.bits_sent-n.ensures, bits_most c.args.self.format.length c.args.v))
+above-requires-2 c = record { le_n = omega (arith, c.bits_sent-n.ensures, bits_least c.args.self.format.length c.args.v); n_bound = omega (arith, c.bits_sent-n.ensures, bits_most c.args.self.format.length c.args.v) }
 
 pub returns : goal.returns
 returns c =

@@ -1,7 +1,6 @@
 -- `asynchronous::Typing::tick` meets its contract: each return by the facts on its way. Assumes nothing.
 use Rattle.asynchronous.proofs.Branch.{tests}
 use Rattle.asynchronous.specs.Sending.{tick_character}
-use borrow.Author.Rules.{rules}
 use Rattle.asynchronous.proofs.Typing.tick.Goals as goal
 
 pub returns-then-c-eq0 : goal.returns-then-c-eq0

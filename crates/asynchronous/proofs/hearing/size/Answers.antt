@@ -1,7 +1,5 @@
 -- `asynchronous::hearing::size` meets its contract: each return by the facts on its way. Assumes nothing.
 use Rattle.asynchronous.proofs.Branch.{tests}
-use native.Mathlib.Omega.{arith}
-use mathlib.Core.Path.{refl}
 use Rattle.asynchronous.specs.Hearing.{size}
 use borrow.Author.Rules.{rules}
 use Rattle.asynchronous.proofs.hearing.size.Goals as goal
@@ -12,11 +10,11 @@ returns-in-5 c = search (rules, tests)
 
 pub returns-in-6 : goal.returns-in-6
 unfolding size
-returns-in-6 c = rw c.in_default.keys2 (refl, omega arith)
+returns-in-6 c = search (rules, tests)
 
 pub returns-in-7 : goal.returns-in-7
 unfolding size
-returns-in-7 c = rw c.in_default.keys3 (refl, omega arith)
+returns-in-7 c = search (rules, tests)
 
 pub returns-in_default : goal.returns-in_default
 unfolding size
