@@ -1,8 +1,7 @@
 -- The line of a list that a station sends: behind the first flag it is the notes' frames, joined as
 -- the choice says, whatever the chip was. Assumes nothing.
-use Rattle.std.specs.Prelude.{◌≡◌, refl, Bool, true, false, not, ◌&&◌, List, [], ◌∷◌, ◌++◌, ℕ, length, drop}
+use Rattle.std.specs.Prelude.{◌≡◌, refl, Bool, true, false, not, ◌&&◌, List, [], ◌∷◌, ◌++◌, ℕ, length, drop, if◌then◌else◌}
 use Rattle.std.proofs.Common.{ap, ap₂, ◌∙◌, append_assoc}
-use Rattle.common.specs.Choice.{if◌then◌else◌}
 use Rattle.common.specs.Tools.{void}
 use Rattle.line.specs.Frame.{flag_bits}
 use Rattle.flags.specs.declared.Between.{Between}
