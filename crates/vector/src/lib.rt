@@ -21,6 +21,7 @@ pub enum Acked {
 }
 
 // The vector's bits 3-1 for a level.
+#[tactic(auto, unfolding(crate::specs::Vector::code_of))]
 fn code(level: u8, special: Special) -> u8
     ensures { result ≡ code_of level special }
 {

@@ -1,8 +1,7 @@
 -- `interrupts::may_take` meets its contract: each return by the facts on its way. Assumes nothing.
-use Rattle.interrupts.proofs.Branch.{tests}
 use Rattle.interrupts.specs.Interrupts.{may_take}
 use Rattle.interrupts.proofs.may_take.Goals as goal
 
 pub returns : goal.returns
 unfolding may_take
-returns c = simp (tests, c.highest-2.ensures, ← c.highest.ensures)
+returns c = simp (c.highest-2.ensures, ← c.highest.ensures)

@@ -1,12 +1,11 @@
 -- `status::Status::afresh` meets its contract: each return by the facts on its way. Assumes nothing.
-use Rattle.status.proofs.Branch.{tests}
 use Rattle.status.specs.Status.{afresh}
 use Rattle.status.proofs.Status.afresh.Goals as goal
 
 pub returns-then-self : goal.returns-then-self
 unfolding afresh
-returns-then-self c = simp (tests, c.changed.ensures, c.if-self.true)
+returns-then-self c = simp (c.changed.ensures, c.if-self.true)
 
 pub returns : goal.returns
 unfolding afresh
-returns c = simp (tests, c.if-self.false)
+returns c = simp c.if-self.false
