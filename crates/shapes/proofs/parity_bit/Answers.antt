@@ -1,7 +1,6 @@
 -- `shapes::parity_bit` meets its contract: what the bits left make of the present parity is what all of them make of the first. Assumes nothing.
-use mathlib.Core.Path.{◌≡◌, refl}
+use mathlib.Core.Path.{refl}
 use native.Mathlib.Omega.{arith}
-use Rattle.line.specs.Bits.{low_bits}
 use Rattle.shapes.specs.Sent.{odd_over}
 use Rattle.line.specs.Laws.Bits.{low_step, low_none}
 use Rattle.shapes.proofs.parity_bit.Goals as goal

@@ -1,9 +1,7 @@
 -- `shapes::parity_bit` meets its contract: what the bits left make of the present parity is what all of them make of the first. Assumes nothing.
-use mathlib.Core.Path.{◌≡◌, refl}
-use native.Mathlib.Omega.{arith}
+use mathlib.Core.Path.{◌≡◌}
 use Rattle.line.specs.Bits.{low_bits}
 use Rattle.shapes.specs.Sent.{odd_over}
-use Rattle.line.specs.Laws.Bits.{low_step, low_none}
 use Rattle.shapes.proofs.parity_bit.Given as goal
 
 abbrev pub invariant-loop-left : goal.invariant-loop-left

@@ -1,7 +1,6 @@
 -- `queue::Queue::oldest` meets its contract: each return by the facts on its way. Assumes nothing.
 use Rattle.queue.proofs.Branch.{tests}
 use Rattle.queue.specs.Queue.{oldest}
-use borrow.Author.Rules.{rules}
 use Rattle.queue.proofs.Queue.oldest.Goals as goal
 
 pub returns-then-self-eq0 : goal.returns-then-self-eq0

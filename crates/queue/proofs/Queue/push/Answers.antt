@@ -1,7 +1,6 @@
 -- `queue::Queue::push` meets its contract: each return by the facts on its way. Assumes nothing.
 use Rattle.queue.proofs.Branch.{tests}
 use Rattle.queue.specs.Queue.{pushed}
-use borrow.Author.Rules.{rules}
 use Rattle.queue.proofs.Queue.push.Goals as goal
 
 pub returns-then-n-eq0 : goal.returns-then-n-eq0

@@ -11,7 +11,6 @@ use Rattle.entry.specs.declared.Entry.{Entry}
 use Rattle.entry.specs.Entry.{no_entry}
 use Rattle.queue.specs.Queue.{queue, moved_up, taken}
 use native.Mathlib.Omega.{arith}
-use borrow.Author.Rules.{rules}
 use Rattle.queue.proofs.Queue.take.Goals as goal
 
 taken-some : (es : List Entry) (p o : Bool) (n : ℕ) → 0 < n
@@ -32,6 +31,6 @@ returns-then-n-eq0 c = simp (tests, c.if-n-eq0.true)
 
 pub returns : goal.returns
 returns c =
-    let q = c.args.t1 in
+    let q = c.args.self in
     simp c.none.ensures
     (sym (taken-some q.entries q.parity q.overrun q.count (omega (arith, c.if-n-eq0.false))))

@@ -1,0 +1,12 @@
+-- `asynchronous::sending::stop_count` meets its contract: each return by the facts on its way. Assumes nothing.
+use Rattle.asynchronous.proofs.Branch.{tests}
+use Rattle.asynchronous.specs.Sending.{stop_bits}
+use Rattle.asynchronous.proofs.sending.stop_count.Goals as goal
+
+pub returns-then-stops-eq2 : goal.returns-then-stops-eq2
+unfolding stop_bits
+returns-then-stops-eq2 c = simp (tests, c.if-stops-eq2.true)
+
+pub returns-else-stops-eq2 : goal.returns-else-stops-eq2
+unfolding stop_bits
+returns-else-stops-eq2 c = simp (tests, c.if-stops-eq2.false)
