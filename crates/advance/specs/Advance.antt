@@ -1,8 +1,7 @@
 -- 02, P10: "the advance over k zero bytes", "with no preset and no complement", over any
 -- polynomial; and the multiplication by which it goes. Assumes nothing.
-use Rattle.std.specs.Prelude.{Bool, false, List, [], ◌∷◌, ℕ, ◌*◌, replicate}
+use Rattle.std.specs.Prelude.{Bool, false, List, [], ◌∷◌, ℕ, ◌*◌, replicate, if◌then◌else◌}
 use Rattle.std.specs.Int.Bits.{bit_xor}
-use Rattle.common.specs.Choice.{if◌then◌else◌}
 use Rattle.line.specs.Bits.{low_bits}
 use Rattle.line.specs.Check.{check_step, check_over}
 

@@ -1,8 +1,7 @@
 // The check register's advance over zero bytes, by halves: a multiplication modulo the polynomial. Assumes nothing.
 #![tactic(auto)]
 
-ghost use Rattle.std.specs.Prelude.{◌≡◌};
-ghost use Rattle.common.specs.Choice.{if◌then◌else◌};
+ghost use Rattle.std.specs.Prelude.{◌≡◌, if◌then◌else◌};
 ghost use Rattle.advance.specs.Advance.{product, advanced};
 
 use line::{check_byte, check_step};

@@ -1,8 +1,7 @@
 -- Demand 1 of a station's calls: each is refused with the number of the first row that holds, and
 -- then chip and lent rows are as before. Assumes nothing.
-use Rattle.std.specs.Prelude.{◌≡◌, refl, ◌≢◌, List, [], ◌∷◌, ℕ, length}
+use Rattle.std.specs.Prelude.{◌≡◌, refl, ◌≢◌, List, [], ◌∷◌, ℕ, length, if◌then◌else◌}
 use Rattle.std.proofs.Common.{◌∙◌}
-use Rattle.common.specs.Choice.{if◌then◌else◌}
 use Rattle.common.specs.Tools.{bool_or}
 use Rattle.line.specs.Line.{note_fits}
 use Rattle.flags.specs.declared.Between.{Between}

@@ -1,7 +1,6 @@
 -- What an event does to the chip of these tales. An edit of must-fail puts a wrong chip here, in
 -- the one line, and names are brought for it; other wrong chips stand in Wrong. Assumes nothing.
-use Rattle.std.specs.Prelude.{◌&&◌, ◌%◌}
-use Rattle.common.specs.Choice.{if◌then◌else◌}
+use Rattle.std.specs.Prelude.{◌&&◌, ◌%◌, if◌then◌else◌}
 use Rattle.interrupts.specs.Interrupts.{no_six}
 use Rattle.status.specs.Status.{status}
 use Rattle.settings.specs.Settings.{store2}

@@ -1,9 +1,8 @@
 -- 01, Receiving: the paragraph on asynchronous characters, a bit at a time. Every assembly is
 -- accepted, also one that no history made. Assumes nothing.
-use Rattle.std.specs.Prelude.{Bool, true, false, not, ◌&&◌, ◌||◌, ℕ, ◌+◌, ◌-◌, ◌*◌, ◌%◌, eqb}
+use Rattle.std.specs.Prelude.{Bool, true, false, not, ◌&&◌, ◌||◌, ℕ, ◌+◌, ◌-◌, ◌*◌, ◌%◌, eqb, if◌then◌else◌}
 use Rattle.std.specs.Bool.{beq}
 use Rattle.std.specs.Int.Bits.{bit_xor}
-use Rattle.common.specs.Choice.{if◌then◌else◌}
 use Rattle.line.specs.Bits.{one_if}
 use Rattle.line.specs.Check.{differs}
 use Rattle.entry.specs.Entry.{no_entry}

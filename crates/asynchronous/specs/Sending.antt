@@ -1,8 +1,7 @@
 -- 01, Sending: "Asynchronous: start 0, the low bits, parity, stop ones." What goes out of one byte
 -- behind its start bit, and a transmit tick. A number of stop bits other than two counts as one.
 -- Assumes nothing.
-use Rattle.std.specs.Prelude.{Bool, true, false, not, ◌&&◌, List, [], ◌∷◌, ◌++◌, ℕ, ◌-◌, ◌/◌, eqb, length}
-use Rattle.common.specs.Choice.{if◌then◌else◌}
+use Rattle.std.specs.Prelude.{Bool, true, false, not, ◌&&◌, List, [], ◌∷◌, ◌++◌, ℕ, ◌-◌, ◌/◌, eqb, length, if◌then◌else◌}
 use Rattle.line.specs.Bits.{odd}
 use Rattle.line.specs.Bits.{from_low}
 use Rattle.shapes.specs.Sent.{sent_bits, parity_bit}

@@ -3,8 +3,7 @@
 -- is written in time: `rest` are the bytes of the block, `tail` those that go straight behind its
 -- check. The laws (Laws/Come): a tick in time takes the first of these bits (`takes`), a write into
 -- the empty buffer changes none of them (`moves`, `moves_behind`). Assumes nothing.
-use Rattle.std.specs.Prelude.{◌≡◌, Bool, true, false, not, ◌||◌, List, [], ◌∷◌, ◌++◌, ℕ, suc, ◌-◌, ◌/◌, ◌^◌, ◌<◌, eqb, take}
-use Rattle.common.specs.Choice.{if◌then◌else◌}
+use Rattle.std.specs.Prelude.{◌≡◌, Bool, true, false, not, ◌||◌, List, [], ◌∷◌, ◌++◌, ℕ, suc, ◌-◌, ◌/◌, ◌^◌, ◌<◌, eqb, take, if◌then◌else◌}
 use Rattle.line.specs.Bits.{low_bits, text_bits}
 use Rattle.line.specs.Check.{top_bits}
 use Rattle.shared.specs.declared.Shared.{Shared}

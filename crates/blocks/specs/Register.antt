@@ -1,7 +1,6 @@
 -- 02, P3: the receive check at every moment since its preset. Ticks, each with settings of its own,
 -- and what starts the search again: Enter Hunt, and a tick while off. Assumes nothing.
-use Rattle.std.specs.Prelude.{Bool, true, false, ◌&&◌, List, [], ◌∷◌, ◌++◌, ℕ, ltb}
-use Rattle.common.specs.Choice.{if◌then◌else◌}
+use Rattle.std.specs.Prelude.{Bool, true, false, ◌&&◌, List, [], ◌∷◌, ◌++◌, ℕ, ltb, if◌then◌else◌}
 use Rattle.line.specs.Bits.{low_bits}
 use Rattle.line.specs.Check.{check_over}
 use Rattle.bytesync.specs.declared.Matching.{Matching}

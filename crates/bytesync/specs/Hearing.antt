@@ -1,7 +1,6 @@
 -- 02, P3: the receiver of Monosync and Bisync, a bit at a time, while it is on. Every receiver and
 -- every setting is accepted, also one that no history made. Assumes nothing.
-use Rattle.std.specs.Prelude.{Bool, true, false, not, ◌&&◌, ℕ, ◌+◌, ◌*◌, ◌/◌, eqb, ltb, leb}
-use Rattle.common.specs.Choice.{if◌then◌else◌}
+use Rattle.std.specs.Prelude.{Bool, true, false, not, ◌&&◌, ℕ, ◌+◌, ◌*◌, ◌/◌, eqb, ltb, leb, if◌then◌else◌}
 use Rattle.line.specs.Bits.{one_if, low_bits}
 use Rattle.line.specs.Check.{check_over}
 use Rattle.entry.specs.Entry.{no_entry, plain_entry}

@@ -1,8 +1,7 @@
 -- 02, P3: the sender of Monosync and Bisync, a tick at a time. A unit holds first the number of its
 -- bits that are still to be sent, then what is left to shift out. Every unit and every setting has
 -- its tick, also one that no history makes. Assumes nothing.
-use Rattle.std.specs.Prelude.{Bool, true, false, not, ◌&&◌, ℕ, ◌-◌, ◌/◌, eqb}
-use Rattle.common.specs.Choice.{if◌then◌else◌}
+use Rattle.std.specs.Prelude.{Bool, true, false, not, ◌&&◌, ℕ, ◌-◌, ◌/◌, eqb, if◌then◌else◌}
 use Rattle.line.specs.Bits.{odd}
 use Rattle.line.specs.Check.{top, shifted}
 use Rattle.shared.specs.Shared.{emptied, latched, entered}

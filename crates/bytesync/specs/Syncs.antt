@@ -1,7 +1,6 @@
 -- 02, P3: what sending and receiving of the two byte-synchronous modes share: the sync characters
 -- and the check's polynomial. Assumes nothing.
-use Rattle.std.specs.Prelude.{Bool, ℕ, ◌+◌, ◌*◌}
-use Rattle.common.specs.Choice.{if◌then◌else◌}
+use Rattle.std.specs.Prelude.{Bool, ℕ, ◌+◌, ◌*◌, if◌then◌else◌}
 use Rattle.line.specs.Check.{sdlc}
 use Rattle.bytesync.specs.declared.Syncs.{Syncs}
 

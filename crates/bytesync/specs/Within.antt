@@ -1,8 +1,7 @@
 -- Most ticks, in a form of their own and no part of 02: while a byte has bits left, neither
 -- settings nor buffer have a part in a transmit tick; outside hunt, a bit that ends no character
 -- hands nothing over. That they are the ticks is said in Laws/Within. Assumes nothing.
-use Rattle.std.specs.Prelude.{Bool, false, not, ◌&&◌, ℕ, ◌+◌, ◌-◌, ◌/◌, eqb, ltb}
-use Rattle.common.specs.Choice.{if◌then◌else◌}
+use Rattle.std.specs.Prelude.{Bool, false, not, ◌&&◌, ℕ, ◌+◌, ◌-◌, ◌/◌, eqb, ltb, if◌then◌else◌}
 use Rattle.line.specs.Bits.{odd}
 use Rattle.line.specs.Check.{top, shifted}
 use Rattle.shared.specs.declared.Shared.{Shared}

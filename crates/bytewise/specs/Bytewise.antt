@@ -1,7 +1,6 @@
 -- A byte put down at once over a buffer, one bit to a cell, by tables that are lent, whatever they
 -- hold. Assumes nothing.
-use Rattle.std.specs.Prelude.{◌≡◌, List, ℕ, ◌+◌, ◌-◌, ◌*◌, ◌/◌, ◌<◌, ltb, length}
-use Rattle.common.specs.Choice.{if◌then◌else◌}
+use Rattle.std.specs.Prelude.{◌≡◌, List, ℕ, ◌+◌, ◌-◌, ◌*◌, ◌/◌, ◌<◌, ltb, length, if◌then◌else◌}
 use Rattle.stamp.specs.Stamp.{run_in}
 use Rattle.imprint.specs.Imprint.{stamp_for, stamp_room, twelve_by}
 use Rattle.bytewise.specs.declared.Press.{Press}

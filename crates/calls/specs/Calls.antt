@@ -1,6 +1,5 @@
 -- What the calls give that need no chip, held to what their items say. Assumes nothing.
-use Rattle.std.specs.Prelude.{Bool, false, ◌&&◌, List, ◌++◌, ℕ, eqb, length, take, drop, replicate}
-use Rattle.common.specs.Choice.{if◌then◌else◌}
+use Rattle.std.specs.Prelude.{Bool, false, ◌&&◌, List, ◌++◌, ℕ, eqb, length, take, drop, replicate, if◌then◌else◌}
 use Rattle.common.specs.Bit.{placed}
 use Rattle.common.specs.Same.{same}
 use Rattle.line.specs.Frame.{frame}

@@ -1,6 +1,5 @@
 -- What a list must give that went through a chip. Assumes nothing.
-use Rattle.std.specs.Prelude.{◌&&◌, List, ℕ, eqb}
-use Rattle.common.specs.Choice.{if◌then◌else◌}
+use Rattle.std.specs.Prelude.{◌&&◌, List, ℕ, eqb, if◌then◌else◌}
 use Rattle.common.specs.Bit.{placed}
 use Rattle.flags.specs.declared.Between.{Between}
 use Rattle.flags.specs.declared.Between.TheVariants.{SharedFlag}

@@ -1,7 +1,6 @@
 -- 01, Registers: control writes and reads of one channel. Assumes nothing.
-use Rattle.std.specs.Prelude.{Bool, true, false, ◌&&◌, ℕ, ◌+◌, eqb}
+use Rattle.std.specs.Prelude.{Bool, true, false, ◌&&◌, ℕ, ◌+◌, eqb, if◌then◌else◌}
 use Rattle.common.specs.Bit.{placed}
-use Rattle.common.specs.Choice.{if◌then◌else◌}
 use Rattle.common.specs.Mode.{in_blocks, synchronous, same_mode}
 use Rattle.common.specs.declared.Mode.{Mode}
 use Rattle.common.specs.declared.Refusal.TheVariants.{Setting}

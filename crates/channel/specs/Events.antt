@@ -1,7 +1,6 @@
 -- 01, Events: data, ticks and lines of one channel, and which of its sources are pending. Assumes
 -- nothing.
-use Rattle.std.specs.Prelude.{Bool, false, not, ◌&&◌, ◌||◌, ℕ, eqb, leb}
-use Rattle.common.specs.Choice.{if◌then◌else◌}
+use Rattle.std.specs.Prelude.{Bool, false, not, ◌&&◌, ◌||◌, ℕ, eqb, leb, if◌then◌else◌}
 use Rattle.common.specs.declared.Refusal.TheVariants as refusal
 use Rattle.line.specs.Bits.{one_if}
 use Rattle.queue.specs.declared.Queue.{Queue}

@@ -1,7 +1,6 @@
 -- 01, Events: the calls of the chip, each with its refusals. "The lowest number wins for a chip
 -- call (1, 2, 3)"; 02, P5: 10 "after 1". Assumes nothing.
-use Rattle.std.specs.Prelude.{false, ℕ, eqb}
-use Rattle.common.specs.Choice.{if◌then◌else◌}
+use Rattle.std.specs.Prelude.{false, ℕ, eqb, if◌then◌else◌}
 use Rattle.common.specs.declared.Refusal.{Refusal}
 use Rattle.common.specs.declared.Refusal.TheVariants as refusal
 use Rattle.interrupts.specs.Interrupts.{no_six}

@@ -1,4 +1,3 @@
-pub mod Choice
 pub mod Refusal
 pub mod Mode
 pub mod Bit

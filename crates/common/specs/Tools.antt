@@ -1,10 +1,9 @@
 -- Tools for proofs: to go by a test, to go by whichever way a choice went, what a test says that
 -- came out true, a test over every number below a bound, and a list of length 0. Assumes nothing.
-use Rattle.std.specs.Prelude.{◌≡◌, refl, ◌≢◌, Bool, true, false, not, ◌&&◌, List, [], ◌∷◌, ℕ, zero, suc, ◌≤◌, ◌<◌, T, eqb, ltb, length}
+use Rattle.std.specs.Prelude.{◌≡◌, refl, ◌≢◌, Bool, true, false, not, ◌&&◌, List, [], ◌∷◌, ℕ, zero, suc, ◌≤◌, ◌<◌, T, eqb, ltb, length, if◌then◌else◌}
 use Rattle.std.proofs.Common.{sym, ap, ◌∙◌, arith, eqb-true, ltb-true, ltb-false, le-leb, le-ltb, lt-ltb, eq-eqb, ne_eqb}
 use Rattle.std.specs.Bool.{beq}
 use Rattle.std.proofs.lemmas.Bool.{eqb-false, lt-leb}
-use Rattle.common.specs.Choice.{if◌then◌else◌}
 use Rattle.common.specs.Bit.{placed}
 
 -- what a branch showed, as the value of the test that a definition makes

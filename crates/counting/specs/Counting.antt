@@ -1,7 +1,6 @@
 -- What the count gives, for every note. Assumes nothing.
-use Rattle.std.specs.Prelude.{◌≡◌, refl, List, ℕ, ◌≤◌, ltb, length}
+use Rattle.std.specs.Prelude.{◌≡◌, refl, List, ℕ, ◌≤◌, ltb, length, if◌then◌else◌}
 use Rattle.std.proofs.Common.{le-ltb}
-use Rattle.common.specs.Choice.{if◌then◌else◌}
 use Rattle.line.specs.Frame.{zeros_of}
 
 -- the zeros inserted into a note's frame, 0 for a note that is too long to have one

@@ -1,11 +1,10 @@
 -- Two blocks in a row: where one has ended, the check preset and the latch cleared, the next
 -- starts. Assumes nothing.
-use Rattle.std.specs.Prelude.{◌≡◌, refl, Bool, true, false, List, [], ◌∷◌, ◌++◌, ℕ, zero, suc, ◌+◌, ◌≤◌, length}
+use Rattle.std.specs.Prelude.{◌≡◌, refl, Bool, true, false, List, [], ◌∷◌, ◌++◌, ℕ, zero, suc, ◌+◌, ◌≤◌, length, if◌then◌else◌}
 use Rattle.std.proofs.Common.{sym, ◌∙◌, append-nil, arith, length-append}
 use Rattle.std.proofs.Math.Path.{ap, subst}
 use Rattle.std.proofs.Math.ListN.{take}
 use Rattle.std.proofs.Math.Seq.{take-length}
-use Rattle.common.specs.Choice.{if◌then◌else◌}
 use Rattle.common.specs.Mode.{in_blocks}
 use Rattle.common.specs.Tools.{if_elim}
 use Rattle.line.specs.Bits.{low_bits, text_bits}

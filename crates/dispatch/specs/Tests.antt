@@ -1,7 +1,6 @@
 -- In time, as a test that a reader can run on a story. Assumes nothing.
-use Rattle.std.specs.Prelude.{◌≡◌, refl, Bool, true, false, not, ◌&&◌, List, [], ◌∷◌, ℕ, eqb}
+use Rattle.std.specs.Prelude.{◌≡◌, refl, Bool, true, false, not, ◌&&◌, List, [], ◌∷◌, ℕ, eqb, if◌then◌else◌}
 use Rattle.std.proofs.Common.{eqb-true}
-use Rattle.common.specs.Choice.{if◌then◌else◌}
 use Rattle.common.specs.Tools.{void, both_left, both_right, not_true}
 use Rattle.blocks.specs.Come.{in_time}
 use Rattle.chip.specs.declared.Chip.{Chip}

@@ -1,7 +1,6 @@
 -- The planner's side of 01, Sending: how a station drives channel A of a chip, call by call, to
 -- send a note. Assumes nothing.
-use Rattle.std.specs.Prelude.{Bool, true, false, not, ◌&&◌, List, [], ◌∷◌, ℕ, zero, suc, ◌+◌, ◌-◌, ◌/◌, eqb, length, get_or, drop}
-use Rattle.common.specs.Choice.{if◌then◌else◌}
+use Rattle.std.specs.Prelude.{Bool, true, false, not, ◌&&◌, List, [], ◌∷◌, ℕ, zero, suc, ◌+◌, ◌-◌, ◌/◌, eqb, length, get_or, drop, if◌then◌else◌}
 use Rattle.common.specs.Mode.{in_sdlc}
 use Rattle.line.specs.Bits.{odd}
 use Rattle.line.specs.Frame.{flag_bits, ticks_of}

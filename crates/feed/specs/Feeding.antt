@@ -1,7 +1,6 @@
 -- An SDLC sender that is fed: before each tick the next byte, if there is one and the buffer takes
 -- it. It is on, with the check included. Assumes nothing.
-use Rattle.std.specs.Prelude.{Bool, not, ◌&&◌, List, [], ◌∷◌, ℕ, zero, suc, ltb, length}
-use Rattle.common.specs.Choice.{if◌then◌else◌}
+use Rattle.std.specs.Prelude.{Bool, not, ◌&&◌, List, [], ◌∷◌, ℕ, zero, suc, ltb, length, if◌then◌else◌}
 use Rattle.shared.specs.declared.Shared.{Shared}
 use Rattle.sdlc.specs.declared.LineUnit.TheVariants.{Flag}
 use Rattle.sdlc.specs.declared.Framer.{Framer}

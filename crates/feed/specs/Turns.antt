@@ -1,8 +1,7 @@
 -- The ticks of a fed sender from one look at the buffer to the next, in a form of their own and no
 -- part of 01: the rest of a byte goes in one loop over a few numbers, any other tick by itself.
 -- That they are the ticks is said in Laws/Turns. Assumes nothing.
-use Rattle.std.specs.Prelude.{List, ℕ, zero, suc, ◌+◌, ◌-◌, ◌/◌, ltb, length, get_or}
-use Rattle.common.specs.Choice.{if◌then◌else◌}
+use Rattle.std.specs.Prelude.{List, ℕ, zero, suc, ◌+◌, ◌-◌, ◌/◌, ltb, length, get_or, if◌then◌else◌}
 use Rattle.line.specs.Bits.{odd, one_if}
 use Rattle.line.specs.Insertion.{counted}
 use Rattle.line.specs.declared.Insertion.{Insertion}

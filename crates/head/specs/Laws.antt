@@ -1,8 +1,7 @@
 -- Laws of what stands at a place of a list. Assumes nothing.
-use Rattle.std.specs.Prelude.{◌≡◌, true, false, not, List, ℕ, ◌+◌, ◌-◌, ◌≤◌, ◌<◌, ltb, leb, length, drop}
+use Rattle.std.specs.Prelude.{◌≡◌, true, false, not, List, ℕ, ◌+◌, ◌-◌, ◌≤◌, ◌<◌, ltb, leb, length, drop, if◌then◌else◌}
 use Rattle.std.proofs.Common.{ap, arith, length-drop, length-take-le}
 use borrow.Author.Tests.{le-leb, lt-leb, le-ltb, lt-ltb}
-use Rattle.common.specs.Choice.{if◌then◌else◌}
 use Rattle.common.specs.Tools.{lt_or, bool_or, ltb_elim}
 use Rattle.common.specs.declared.Refusal.{Refusal}
 use Rattle.common.specs.declared.Refusal.TheVariants.{NoteLength, CutList}

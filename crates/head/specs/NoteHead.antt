@@ -1,6 +1,5 @@
 -- 01, Note list and line: what stands at a place of a list. Assumes nothing.
-use Rattle.std.specs.Prelude.{◌≡◌, true, not, List, [], ℕ, ◌+◌, ◌-◌, ◌*◌, ◌≤◌, ltb, leb, length, get_or, take, drop}
-use Rattle.common.specs.Choice.{if◌then◌else◌}
+use Rattle.std.specs.Prelude.{◌≡◌, true, not, List, [], ℕ, ◌+◌, ◌-◌, ◌*◌, ◌≤◌, ltb, leb, length, get_or, take, drop, if◌then◌else◌}
 use Rattle.common.specs.declared.Refusal.TheVariants.{NoteLength, CutList}
 use Rattle.line.specs.Line.{note_fits}
 use Rattle.head.specs.declared.Head.{Head}

@@ -1,7 +1,6 @@
 -- 02, P10: "Most notes start with the same printed heading. We'd like its check worked out once."
 -- Assumes nothing.
-use Rattle.std.specs.Prelude.{List, ℕ, ◌+◌, length}
-use Rattle.common.specs.Choice.{if◌then◌else◌}
+use Rattle.std.specs.Prelude.{List, ℕ, ◌+◌, length, if◌then◌else◌}
 use Rattle.common.specs.Refusal.{number_of}
 use Rattle.common.specs.declared.Refusal.TheVariants.{NoteLength}
 use Rattle.line.specs.Check.{sdlc, complement, check_over}

@@ -2,8 +2,7 @@
 -- run on an event, and the law that it is enough if it is for each of a channel's own calls. A part
 -- is what registers, lines, sender, receiver and queue say; pointer, status, what is armed, pending
 -- or in service are in none. Assumes nothing.
-use Rattle.std.specs.Prelude.{◌≡◌, refl, Bool, true, false, not, ◌&&◌, ◌||◌, ℕ, eqb, leb}
-use Rattle.common.specs.Choice.{if◌then◌else◌}
+use Rattle.std.specs.Prelude.{◌≡◌, refl, Bool, true, false, not, ◌&&◌, ◌||◌, ℕ, eqb, leb, if◌then◌else◌}
 use Rattle.common.specs.Tools.{by_test, if_elim, void}
 use Rattle.common.specs.declared.Refusal.TheVariants as refusal
 use Rattle.queue.specs.declared.Queue.{Queue}

@@ -1,9 +1,8 @@
 -- What a control read gives: RR0 or RR1 by the pointer, and a bit of theirs among the others.
 -- Assumes nothing.
-use Rattle.std.specs.Prelude.{◌≡◌, refl, Bool, true, false, ℕ, ◌+◌, ◌*◌, ◌/◌, ◌≤◌, eqb}
+use Rattle.std.specs.Prelude.{◌≡◌, refl, Bool, true, false, ℕ, ◌+◌, ◌*◌, ◌/◌, ◌≤◌, eqb, if◌then◌else◌}
 use Rattle.std.proofs.Common.{ap, ◌∙◌, arith}
 use Rattle.common.specs.Bit.{placed}
-use Rattle.common.specs.Choice.{if◌then◌else◌}
 use Rattle.line.specs.Bits.{odd, one_if}
 use Rattle.line.specs.Laws.Bits.{odd_joined}
 use Rattle.channel.specs.declared.Channel.{Channel}

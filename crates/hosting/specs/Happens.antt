@@ -1,7 +1,6 @@
 -- What an event does to the chip of these tales. An edit of must-fail puts a wrong chip here, in
 -- the one line, and names are brought for it; other wrong chips stand in Wrong. Assumes nothing.
-use Rattle.std.specs.Prelude.{true, false, not, ◌&&◌, eqb}
-use Rattle.common.specs.Choice.{if◌then◌else◌}
+use Rattle.std.specs.Prelude.{true, false, not, ◌&&◌, eqb, if◌then◌else◌}
 use Rattle.entry.specs.Entry.{plain_entry}
 use Rattle.sdlc.specs.Sending.{insertion, checking, no_bit_left}
 use Rattle.chip.specs.Event.{step}

@@ -1,8 +1,7 @@
 -- A byte's stamp, and its cells over a buffer, one bit to a cell, by tables that are lent, whatever
 -- they hold. Assumes nothing.
-use Rattle.std.specs.Prelude.{List, ℕ, ◌+◌, ◌/◌, ◌%◌, leb, get_or}
+use Rattle.std.specs.Prelude.{List, ℕ, ◌+◌, ◌/◌, ◌%◌, leb, get_or, if◌then◌else◌}
 use Rattle.std.proofs.lemmas.List.Edits.{sets}
-use Rattle.common.specs.Choice.{if◌then◌else◌}
 use Rattle.stamp.specs.Stamp.{four_cells}
 
 -- the stamp of a byte in a row; 0 where the table has none

@@ -1,7 +1,6 @@
 -- 01, Interrupts and external status: a channel's sources, their priority, acknowledge and RETI.
 -- Assumes nothing.
-use Rattle.std.specs.Prelude.{Bool, true, false, ℕ, ◌-◌, eqb, ltb}
-use Rattle.common.specs.Choice.{if◌then◌else◌}
+use Rattle.std.specs.Prelude.{Bool, true, false, ℕ, ◌-◌, eqb, ltb, if◌then◌else◌}
 use Rattle.interrupts.specs.declared.Sources.{Sources}
 use Rattle.interrupts.specs.declared.Six.{Six}
 

@@ -1,8 +1,7 @@
 -- 01, Interrupts: "Priority: A receive, transmit, external, then B." Refusal 4 in the paper's own
 -- words: which source stands at a place of that order, and what it is for a pending source to lie
 -- above all those in service. Assumes nothing.
-use Rattle.std.specs.Prelude.{◌≡◌, Bool, true, false, ℕ, ◌<◌, eqb}
-use Rattle.common.specs.Choice.{if◌then◌else◌}
+use Rattle.std.specs.Prelude.{◌≡◌, Bool, true, false, ℕ, ◌<◌, eqb, if◌then◌else◌}
 use Rattle.interrupts.specs.declared.Six.{Six}
 
 abbrev pub source_at : Six → ℕ → Bool

@@ -1,6 +1,5 @@
 -- Cells that a call must leave, each by its place. Assumes nothing.
-use Rattle.std.specs.Prelude.{Bool, true, false, List, ℕ, zero, suc, ◌+◌, ◌/◌, eqb, ltb, length, get_or}
-use Rattle.common.specs.Choice.{if◌then◌else◌}
+use Rattle.std.specs.Prelude.{Bool, true, false, List, ℕ, zero, suc, ◌+◌, ◌/◌, eqb, ltb, length, get_or, if◌then◌else◌}
 use Rattle.items.specs.Item.{three_at}
 
 -- a cell where nobody has written, and where there is none

@@ -1,7 +1,6 @@
 -- Bytes for a call, laid on a desk pattern by pattern. Assumes nothing.
-use Rattle.std.specs.Prelude.{List, ℕ, zero, suc, ◌+◌, ◌-◌, min, ltb, length, take, drop}
+use Rattle.std.specs.Prelude.{List, ℕ, zero, suc, ◌+◌, ◌-◌, min, ltb, length, take, drop, if◌then◌else◌}
 use Rattle.std.proofs.lemmas.List.Edits.{sets}
-use Rattle.common.specs.Choice.{if◌then◌else◌}
 
 -- a part of bytes, from a place to a place, as far as there are bytes
 abbrev pub bytes_to : List ℕ → ℕ → ℕ → List ℕ

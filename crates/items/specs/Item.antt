@@ -1,6 +1,5 @@
 -- An item of the known answers: eight bytes, and those that may stand behind it. Assumes nothing.
-use Rattle.std.specs.Prelude.{Bool, ◌&&◌, ◌||◌, List, ℕ, ◌+◌, ◌-◌, ◌*◌, min, eqb, ltb, leb, length, get_or}
-use Rattle.common.specs.Choice.{if◌then◌else◌}
+use Rattle.std.specs.Prelude.{Bool, ◌&&◌, ◌||◌, List, ℕ, ◌+◌, ◌-◌, ◌*◌, min, eqb, ltb, leb, length, get_or, if◌then◌else◌}
 use Rattle.items.specs.declared.Item.{Item}
 
 -- the kinds; below the first of them items are events by their codes

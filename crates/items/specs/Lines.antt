@@ -1,6 +1,5 @@
 -- What a run of known answers tells: a line for each case, and a last one. Assumes nothing.
-use Rattle.std.specs.Prelude.{Bool, List, [], ◌∷◌, ℕ, eqb}
-use Rattle.common.specs.Choice.{if◌then◌else◌}
+use Rattle.std.specs.Prelude.{Bool, List, [], ◌∷◌, ℕ, eqb, if◌then◌else◌}
 use Rattle.text.specs.declared.Line.{Line}
 use Rattle.text.specs.Text.{newline, space, empty_line, with_all, numbered}
 use Rattle.items.specs.declared.Sheet.{Sheet}

@@ -1,6 +1,5 @@
 -- The sheet on which known answers are judged, item by item. Assumes nothing.
-use Rattle.std.specs.Prelude.{Bool, true, ◌&&◌, List, ℕ, ◌+◌, ◌-◌, eqb, leb, length}
-use Rattle.common.specs.Choice.{if◌then◌else◌}
+use Rattle.std.specs.Prelude.{Bool, true, ◌&&◌, List, ℕ, ◌+◌, ◌-◌, eqb, leb, length, if◌then◌else◌}
 use Rattle.items.specs.declared.Item.{Item}
 use Rattle.items.specs.declared.Sheet.{Sheet}
 use Rattle.items.specs.Item.{register_kind, name_kind, given_kind, wanted_kind, stop_kind}

@@ -1,7 +1,6 @@
 -- What the writer by whole bytes answers, and what it leaves in the caller's buffer, by tables that
 -- are lent, whatever they hold. Assumes nothing.
-use Rattle.std.specs.Prelude.{List, ◌++◌, ℕ, ◌+◌, ◌-◌, ◌*◌, ltb, length, take, drop}
-use Rattle.common.specs.Choice.{if◌then◌else◌}
+use Rattle.std.specs.Prelude.{List, ◌++◌, ℕ, ◌+◌, ◌-◌, ◌*◌, ltb, length, take, drop, if◌then◌else◌}
 use Rattle.common.specs.declared.Refusal.TheVariants.{NoteLength, NoRoom}
 use Rattle.line.specs.Frame.{ticks_of}
 use Rattle.line.specs.Line.{note_fits}

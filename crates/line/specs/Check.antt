@@ -1,10 +1,9 @@
 -- 01, Sending: "The check: x^16+x^12+x^5+1, preset ones, complemented, x^15 first (ISO/IEC 13239)".
 -- The register is a number of sixteen bits, x^15 the highest; a polynomial is the number of its
 -- powers below x^16. Assumes nothing.
-use Rattle.std.specs.Prelude.{Bool, not, List, [], ◌∷◌, ℕ, zero, suc, ◌*◌, ◌/◌, ◌%◌}
+use Rattle.std.specs.Prelude.{Bool, not, List, [], ◌∷◌, ℕ, zero, suc, ◌*◌, ◌/◌, ◌%◌, if◌then◌else◌}
 use Rattle.std.specs.Bool.{beq}
 use Rattle.std.specs.Int.Bits.{bit_xor}
-use Rattle.common.specs.Choice.{if◌then◌else◌}
 use Rattle.line.specs.Bits.{odd}
 
 -- x^16+x^12+x^5+1

@@ -2,8 +2,7 @@
 -- one 0 is owed and sent next, even before the flag." The run is the number of ones just sent, and
 -- is below five before each bit; a greater one, which no history makes, counts as four. Assumes
 -- nothing.
-use Rattle.std.specs.Prelude.{Bool, true, false, not, ◌&&◌, List, [], ◌∷◌, ◌++◌, ℕ, ◌+◌, eqb, ltb}
-use Rattle.common.specs.Choice.{if◌then◌else◌}
+use Rattle.std.specs.Prelude.{Bool, true, false, not, ◌&&◌, List, [], ◌∷◌, ◌++◌, ℕ, ◌+◌, eqb, ltb, if◌then◌else◌}
 use Rattle.line.specs.declared.Insertion.{Insertion}
 use Rattle.line.specs.Bits.{one_if}
 

@@ -1,8 +1,7 @@
 -- How the lists of these tales are read, and how zeros are counted in their notes. An edit of
 -- must-fail puts a wrong reading here, in one line; the names that wrong ones are made of are
 -- brought for it. Assumes nothing.
-use Rattle.std.specs.Prelude.{◌&&◌, List, [], ◌∷◌, ◌++◌, ℕ, ◌+◌, eqb, ltb, length, get_or, take, drop}
-use Rattle.common.specs.Choice.{if◌then◌else◌}
+use Rattle.std.specs.Prelude.{◌&&◌, List, [], ◌∷◌, ◌++◌, ℕ, ◌+◌, eqb, ltb, length, get_or, take, drop, if◌then◌else◌}
 use Rattle.common.specs.declared.Refusal.TheVariants.{NoteLength, CutList}
 use Rattle.line.specs.Bits.{low_bits, text_bits}
 use Rattle.line.specs.Insertion.{zeros}

@@ -1,8 +1,7 @@
 -- 01, Note list and line: how a station drives channel A of a chip to send a list, and the line
 -- that it puts out. 02, P7: how notes follow each other is a choice. Assumes nothing.
-use Rattle.std.specs.Prelude.{Bool, ℕ, eqb, length, get_or, drop}
+use Rattle.std.specs.Prelude.{Bool, ℕ, eqb, length, get_or, drop, if◌then◌else◌}
 use mathlib.Core.List.{List, [], ◌∷◌, ◌++◌, foldl}
-use Rattle.common.specs.Choice.{if◌then◌else◌}
 use Rattle.flags.specs.declared.Between.{Between}
 use Rattle.flags.specs.Flags.{own_flag}
 use Rattle.notes.specs.NoteList.{Reading, whole, refuses}

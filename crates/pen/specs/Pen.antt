@@ -1,7 +1,6 @@
 -- A pen over a buffer, one bit to a cell, and what it leaves behind. Assumes nothing.
-use Rattle.std.specs.Prelude.{Bool, List, ℕ, ◌+◌, ◌-◌, ltb, length}
+use Rattle.std.specs.Prelude.{Bool, List, ℕ, ◌+◌, ◌-◌, ltb, length, if◌then◌else◌}
 use Rattle.std.proofs.lemmas.List.Edits.{sets}
-use Rattle.common.specs.Choice.{if◌then◌else◌}
 use Rattle.line.specs.Bits.{low_bits, cells}
 use Rattle.line.specs.Insertion.{stuff, run_over}
 use Rattle.line.specs.Frame.{flag_bits}

@@ -1,6 +1,5 @@
 -- Known answers played on a chip, item by item. Assumes nothing.
-use Rattle.std.specs.Prelude.{◌||◌, List, ℕ, zero, suc, eqb, ltb}
-use Rattle.common.specs.Choice.{if◌then◌else◌}
+use Rattle.std.specs.Prelude.{◌||◌, List, ℕ, zero, suc, eqb, ltb, if◌then◌else◌}
 use Rattle.channel.specs.declared.Answer.{Answer}
 use Rattle.channel.specs.declared.Answer.TheVariants.{Done, Gave}
 use Rattle.channel.specs.Answer.{answer_number, answer_value}

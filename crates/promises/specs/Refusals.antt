@@ -1,7 +1,6 @@
 -- 01, Events: the table of refusals, rows 1 to 4, 02's row 10, and the rows that each event knows.
 -- Assumes nothing.
-use Rattle.std.specs.Prelude.{Bool, not, ◌&&◌, ◌||◌, List, [], ◌∷◌, ℕ, eqb, leb}
-use Rattle.common.specs.Choice.{if◌then◌else◌}
+use Rattle.std.specs.Prelude.{Bool, not, ◌&&◌, ◌||◌, List, [], ◌∷◌, ℕ, eqb, leb, if◌then◌else◌}
 use Rattle.queue.specs.Queue.{waits}
 use Rattle.interrupts.specs.Interrupts.{may_take}
 use Rattle.settings.specs.Settings.{not_built}

@@ -1,8 +1,7 @@
 -- The receive queue and the bits of RR1 that it decides: 01, Registers (RR1), Receiving (the queue)
 -- and Interrupts (special). Every queue is accepted, also one whose count no history made. Assumes
 -- nothing.
-use Rattle.std.specs.Prelude.{Bool, false, not, ◌||◌, List, [], ◌∷◌, ℕ, ◌+◌, ◌-◌, eqb, ltb, set, get_or}
-use Rattle.common.specs.Choice.{if◌then◌else◌}
+use Rattle.std.specs.Prelude.{Bool, false, not, ◌||◌, List, [], ◌∷◌, ℕ, ◌+◌, ◌-◌, eqb, ltb, set, get_or, if◌then◌else◌}
 pub use Rattle.queue.specs.declared.Queue.{Queue}
 use Rattle.entry.specs.declared.Entry.{Entry}
 use Rattle.entry.specs.Entry.{no_entry, overran, rr1_with, rr1_of, special_of}

@@ -1,7 +1,6 @@
 -- 01, Interrupts and external status: the sources of two channels, RR2, which stay in service under
 -- a control write, and what an acknowledge takes. Assumes nothing.
-use Rattle.std.specs.Prelude.{Bool, ◌&&◌, ℕ, eqb}
-use Rattle.common.specs.Choice.{if◌then◌else◌}
+use Rattle.std.specs.Prelude.{Bool, ◌&&◌, ℕ, eqb, if◌then◌else◌}
 use Rattle.interrupts.specs.declared.Six.{Six}
 use Rattle.interrupts.specs.Interrupts.{no_sources, six, highest, may_take, acknowledged, ended}
 use Rattle.vector.specs.declared.Special.{Special}

@@ -1,9 +1,8 @@
 -- 01, Receiving: one channel's receiver: what all modes share, which mode hears, off, and what the
 -- other events do to it. Every receiver is accepted, also one that no history made. Assumes
 -- nothing.
-use Rattle.std.specs.Prelude.{Bool, true, false, ◌&&◌, ◌||◌, ℕ}
+use Rattle.std.specs.Prelude.{Bool, true, false, ◌&&◌, ◌||◌, ℕ, if◌then◌else◌}
 use Rattle.std.specs.Bool.{beq}
-use Rattle.common.specs.Choice.{if◌then◌else◌}
 use Rattle.common.specs.Mode.{in_sdlc, in_blocks}
 use Rattle.common.specs.declared.Mode.{Mode}
 use Rattle.common.specs.declared.Mode.TheVariants.{NoMode, Asynchronous, Monosync, Bisync, Sdlc}

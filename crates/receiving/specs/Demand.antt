@@ -1,8 +1,7 @@
 -- Demand 2, proved: at the end of a story, at every moment of it, for several notes, and RR1 as it
 -- is read. Assumes nothing.
-use Rattle.std.specs.Prelude.{◌≡◌, refl, Bool, true, false, not, ◌&&◌, ◌||◌, List, [], ◌∷◌, ◌++◌, ℕ, suc, ◌+◌, eqb, length}
+use Rattle.std.specs.Prelude.{◌≡◌, refl, Bool, true, false, not, ◌&&◌, ◌||◌, List, [], ◌∷◌, ◌++◌, ℕ, suc, ◌+◌, eqb, length, if◌then◌else◌}
 use Rattle.std.proofs.Common.{sym, ap, ◌∙◌, subst, append_assoc, append-nil, arith, length-append, eq-eqb, ne_eqb}
-use Rattle.common.specs.Choice.{if◌then◌else◌}
 use Rattle.common.specs.declared.Mode.{Mode}
 use Rattle.common.specs.declared.Mode.TheVariants.{Sdlc}
 use Rattle.common.specs.Mode.{in_blocks, synchronous}
@@ -168,9 +167,10 @@ notes2 w c st ns l n f e =
 
 fed_front : (w : Which) {c : Chip} (xs ys : List Event) → Fed w c (xs ++ ys) → Fed w c xs
 fed_front w [] ys f = over
-fed_front w (x ∷ xs) ys (hears r k f) = hears r k (fed_front w xs ys f)
-fed_front w (x ∷ xs) ys (reads r f) = reads r (fed_front w xs ys f)
-fed_front w (x ∷ xs) ys (still r k f) = still r k (fed_front w xs ys f)
+fed_front w {c = c} (x ∷ xs) ys (hears r k f) = hears r k (fed_front w {c = (happens c x).chip} xs ys f)
+fed_front w {c = c} (x ∷ xs) ys (reads r f) = reads r (fed_front w {c = (happens c x).chip} xs ys f)
+fed_front w {c = c} (x ∷ xs) ys (still r k f) =
+    still r k (fed_front w {c = (happens c x).chip} xs ys f)
 
 bits_join : (w : Which) (xs ys : List Event) → bits_of w (xs ++ ys) ≡ bits_of w xs ++ bits_of w ys
 unfolding bits_of

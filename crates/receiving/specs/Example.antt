@@ -1,9 +1,8 @@
 -- The stories of demand 2, computed to meet what it asks: marked example 4 with other events behind
 -- every bit, with RR1 read at its last character, with a bit flipped; two notes in a row; and
 -- stories that do not meet it. Then the theorems, said of them. Assumes nothing.
-use Rattle.std.specs.Prelude.{◌≡◌, refl, true, false, List, [], ◌∷◌, ◌++◌, ℕ, ◌+◌, eqb, length}
+use Rattle.std.specs.Prelude.{◌≡◌, refl, true, false, List, [], ◌∷◌, ◌++◌, ℕ, ◌+◌, eqb, length, if◌then◌else◌}
 use Rattle.std.proofs.Common.{ap, ◌∙◌, arith}
-use Rattle.common.specs.Choice.{if◌then◌else◌}
 use Rattle.line.specs.Frame.{flag_bits, content_of, frame, check_bytes, with_check}
 use Rattle.line.specs.Bits.{below_none as none, below_more as more}
 use Rattle.queue.specs.Queue.{waits}

@@ -2,8 +2,7 @@
 -- just past a flag, fed a whole frame's line, read before a fourth character waits and else
 -- untouched, gives back its bytes, its check and a good mark." Said of either channel of any chip,
 -- over stories in which everything else may happen too. Assumes nothing.
-use Rattle.std.specs.Prelude.{◌≡◌, Bool, true, false, not, List, ◌∷◌, ◌++◌, ℕ, ◌+◌, ◌≤◌, eqb, length}
-use Rattle.common.specs.Choice.{if◌then◌else◌}
+use Rattle.std.specs.Prelude.{◌≡◌, Bool, true, false, not, List, ◌∷◌, ◌++◌, ℕ, ◌+◌, ◌≤◌, eqb, length, if◌then◌else◌}
 use Rattle.common.specs.declared.Mode.TheVariants.{Sdlc}
 use Rattle.line.specs.Frame.{flag_bits, content_of, frame, with_check}
 use Rattle.line.specs.Bits.{Below}

@@ -3,8 +3,7 @@
 -- line and for a list. A call is refused with the number of the first row that holds in the order
 -- that the paper gives, and with none if none does. That every call accepts every input and ends is
 -- each function's own proof: no public function has a `requires`. Assumes nothing.
-use Rattle.std.specs.Prelude.{◌≡◌, refl, ◌≢◌, not, ◌||◌, List, [], ◌∷◌, ℕ, ◌-◌, eqb, ltb, leb, length, get_or}
-use Rattle.common.specs.Choice.{if◌then◌else◌}
+use Rattle.std.specs.Prelude.{◌≡◌, refl, ◌≢◌, not, ◌||◌, List, [], ◌∷◌, ℕ, ◌-◌, eqb, ltb, leb, length, get_or, if◌then◌else◌}
 use Rattle.common.specs.Tools.{bool_or}
 use Rattle.common.specs.Refusal.{number_of}
 use Rattle.zeros.specs.declared.Counted.{Counted}

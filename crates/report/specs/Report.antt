@@ -1,7 +1,6 @@
 -- 01, Note list and line: what sending a list tells, note by note and in all. Assumes nothing.
-use Rattle.std.specs.Prelude.{Bool, List, [], ◌∷◌, ◌++◌, ℕ, ◌+◌, ◌/◌, leb, length}
+use Rattle.std.specs.Prelude.{Bool, List, [], ◌∷◌, ◌++◌, ℕ, ◌+◌, ◌/◌, leb, length, if◌then◌else◌}
 use Rattle.std.proofs.lemmas.List.Edits.{sets}
-use Rattle.common.specs.Choice.{if◌then◌else◌}
 use Rattle.common.specs.declared.Refusal.{Refusal}
 use Rattle.line.specs.Frame.{zeros_of, ticks_of}
 use Rattle.flags.specs.declared.Between.{Between}

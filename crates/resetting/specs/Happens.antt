@@ -1,7 +1,6 @@
 -- What an event does to the chip of these tales. An edit of must-fail puts a wrong chip here, in
 -- the one line, and names are brought for it; other wrong chips stand in Wrong. Assumes nothing.
-use Rattle.std.specs.Prelude.{false}
-use Rattle.common.specs.Choice.{if◌then◌else◌}
+use Rattle.std.specs.Prelude.{false, if◌then◌else◌}
 use Rattle.channel.specs.Channel.{with_queue}
 use Rattle.chip.specs.Interrupts.{in_service}
 use Rattle.chip.specs.Event.{step}

@@ -1,6 +1,5 @@
 -- What a host reads behind an event, by the calls alone. Assumes nothing.
-use Rattle.std.specs.Prelude.{ℕ, eqb}
-use Rattle.common.specs.Choice.{if◌then◌else◌}
+use Rattle.std.specs.Prelude.{ℕ, eqb, if◌then◌else◌}
 use Rattle.channel.specs.Answer.{answer_number, answer_value}
 use Rattle.chip.specs.declared.Chip.{Chip}
 use Rattle.chip.specs.declared.Outcome.{Outcome}

@@ -1,7 +1,6 @@
 -- 01, Events: each of the ten events by a code, as one call that answers and gives back the chip.
 -- Assumes nothing.
-use Rattle.std.specs.Prelude.{◌&&◌, ℕ, eqb, leb}
-use Rattle.common.specs.Choice.{if◌then◌else◌}
+use Rattle.std.specs.Prelude.{◌&&◌, ℕ, eqb, leb, if◌then◌else◌}
 use Rattle.channel.specs.declared.Answer.TheVariants.{Done}
 use Rattle.chip.specs.declared.Chip.{Chip}
 use Rattle.chip.specs.declared.Outcome.{Outcome}

@@ -1,7 +1,6 @@
 -- 01, Receiving: the paragraph on SDLC, a bit at a time. Every receiver is accepted, also one that
 -- no history made. Assumes nothing.
-use Rattle.std.specs.Prelude.{Bool, true, false, not, ◌&&◌, ◌||◌, ℕ, ◌+◌, ◌*◌, ◌/◌, ◌%◌, eqb, ltb}
-use Rattle.common.specs.Choice.{if◌then◌else◌}
+use Rattle.std.specs.Prelude.{Bool, true, false, not, ◌&&◌, ◌||◌, ℕ, ◌+◌, ◌*◌, ◌/◌, ◌%◌, eqb, ltb, if◌then◌else◌}
 use Rattle.line.specs.Bits.{odd, one_if}
 use Rattle.line.specs.Check.{sdlc, ones, check_step, remainder}
 use Rattle.entry.specs.Entry.{no_entry}

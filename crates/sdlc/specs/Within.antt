@@ -2,8 +2,7 @@
 -- settings nor buffer have a part in a transmit tick; and a bit of content behind a full delay that
 -- ends no character, no flag and no abort hands nothing over, and hunt and D7 stay off. That they
 -- are the ticks is said in Laws/Within. Assumes nothing.
-use Rattle.std.specs.Prelude.{Bool, true, false, not, ◌&&◌, ℕ, ◌+◌, eqb, ltb}
-use Rattle.common.specs.Choice.{if◌then◌else◌}
+use Rattle.std.specs.Prelude.{Bool, true, false, not, ◌&&◌, ℕ, ◌+◌, eqb, ltb, if◌then◌else◌}
 use Rattle.line.specs.Check.{sdlc, check_step}
 use Rattle.sdlc.specs.declared.LineUnit.{LineUnit}
 use Rattle.sdlc.specs.declared.LineUnit.TheVariants.{Mark, Flag, Byte, Check, Abort}

@@ -1,7 +1,6 @@
 -- 01, Sending: one channel's sender: what all modes share, which mode ticks, and break. Every
 -- sender and every setting has its tick, also one that no history makes. Assumes nothing.
-use Rattle.std.specs.Prelude.{Bool, true, false, not, ◌&&◌, ◌||◌, ℕ}
-use Rattle.common.specs.Choice.{if◌then◌else◌}
+use Rattle.std.specs.Prelude.{Bool, true, false, not, ◌&&◌, ◌||◌, ℕ, if◌then◌else◌}
 use Rattle.common.specs.Mode.{in_sdlc, in_blocks, synchronous}
 use Rattle.common.specs.declared.Mode.{Mode}
 use Rattle.common.specs.declared.Mode.TheVariants.{NoMode, Asynchronous, Monosync, Bisync, Sdlc}

@@ -1,6 +1,5 @@
 -- 01, Registers: what the write registers say, each bit named once. Assumes nothing.
-use Rattle.std.specs.Prelude.{Bool, not, ◌&&◌, ◌||◌, ℕ, ◌/◌, ◌%◌, eqb}
-use Rattle.common.specs.Choice.{if◌then◌else◌}
+use Rattle.std.specs.Prelude.{Bool, not, ◌&&◌, ◌||◌, ℕ, ◌/◌, ◌%◌, eqb, if◌then◌else◌}
 use Rattle.common.specs.declared.Mode.{Mode}
 use Rattle.common.specs.declared.Mode.TheVariants.{Asynchronous, Monosync, Bisync, Sdlc}
 use Rattle.line.specs.Bits.{odd}

@@ -1,7 +1,6 @@
 -- 01, Sending: "the low bits, parity": what an asynchronous character of a length sends of a byte.
 -- A length that is none of five, six and seven counts as eight. Assumes nothing.
-use Rattle.std.specs.Prelude.{Bool, not, List, [], ◌∷◌, ℕ, eqb}
-use Rattle.common.specs.Choice.{if◌then◌else◌}
+use Rattle.std.specs.Prelude.{Bool, not, List, [], ◌∷◌, ℕ, eqb, if◌then◌else◌}
 use Rattle.line.specs.Bits.{low_bits}
 use Rattle.line.specs.Check.{differs}
 use Rattle.shapes.specs.Shapes.{shape_bits}

@@ -1,7 +1,6 @@
 -- 02, P1: short characters. With length 00 an asynchronous byte's shape says how many of its low
 -- bits are sent. Assumes nothing.
-use Rattle.std.specs.Prelude.{Bool, List, [], ◌∷◌, ℕ, ◌/◌, ◌^◌, eqb}
-use Rattle.common.specs.Choice.{if◌then◌else◌}
+use Rattle.std.specs.Prelude.{Bool, List, [], ◌∷◌, ℕ, ◌/◌, ◌^◌, eqb, if◌then◌else◌}
 
 -- a shape: how many Ds it has, and what stands above them
 pub record Shape : Type 0 where

@@ -1,6 +1,5 @@
 -- What WR0's presets load into a check, sender's and receiver's alike. Assumes nothing.
-use Rattle.std.specs.Prelude.{ℕ}
-use Rattle.common.specs.Choice.{if◌then◌else◌}
+use Rattle.std.specs.Prelude.{ℕ, if◌then◌else◌}
 use Rattle.common.specs.Mode.{in_blocks}
 use Rattle.common.specs.declared.Mode.{Mode}
 use Rattle.line.specs.Check.{ones}

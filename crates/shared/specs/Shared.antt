@@ -1,7 +1,6 @@
 -- 01, Sending: what the senders of all modes share, the buffer, the underrun latch and the check.
 -- Assumes nothing.
-use Rattle.std.specs.Prelude.{Bool, true, false, ℕ}
-use Rattle.common.specs.Choice.{if◌then◌else◌}
+use Rattle.std.specs.Prelude.{Bool, true, false, ℕ, if◌then◌else◌}
 use Rattle.line.specs.Bits.{low_bits}
 use Rattle.line.specs.Check.{ones, check_over}
 use Rattle.shared.specs.declared.Shared.{Shared}

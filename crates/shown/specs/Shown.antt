@@ -1,8 +1,7 @@
 -- What RR0 shows of the underrun latch: D6 as a control read gives it, and that it is shown from
 -- the moment it is set until it is cleared. Assumes nothing.
-use Rattle.std.specs.Prelude.{◌≡◌, refl, Bool, true, false, not, ◌&&◌, ◌||◌, ℕ, ◌+◌, ◌/◌, eqb, leb}
+use Rattle.std.specs.Prelude.{◌≡◌, refl, Bool, true, false, not, ◌&&◌, ◌||◌, ℕ, ◌+◌, ◌/◌, eqb, leb, if◌then◌else◌}
 use Rattle.std.proofs.Common.{sym, ap, ◌∙◌, arith}
-use Rattle.common.specs.Choice.{if◌then◌else◌}
 use Rattle.common.specs.Bit.{placed}
 use Rattle.common.specs.Mode.{in_sdlc, synchronous, same_mode}
 use Rattle.common.specs.Tools.{if_elim, by_test, void}

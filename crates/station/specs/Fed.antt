@@ -1,9 +1,8 @@
 -- A note that fits: the SDLC sender of a chip that is ready, fed to the end of its frame, is what
 -- the drive of the whole chip leaves; and the flag before a next note. Assumes nothing.
-use Rattle.std.specs.Prelude.{◌≡◌, refl, Bool, true, false, List, [], ◌∷◌, ℕ, ◌+◌, ◌-◌, ◌<◌, eqb, length, get_or, take, drop}
+use Rattle.std.specs.Prelude.{◌≡◌, refl, Bool, true, false, List, [], ◌∷◌, ℕ, ◌+◌, ◌-◌, ◌<◌, eqb, length, get_or, take, drop, if◌then◌else◌}
 use Rattle.std.proofs.Common.{sym, ap, subst, ◌∙◌, arith, length-drop, lt-ltb}
 use Rattle.std.proofs.Math.Seq.{take-length}
-use Rattle.common.specs.Choice.{if◌then◌else◌}
 use Rattle.common.specs.Tools.{void}
 use Rattle.line.specs.Frame.{flag_bits, ticks_of}
 use Rattle.line.specs.Line.{note_fits}

@@ -1,6 +1,5 @@
 -- What `send_list` holds beside its chip: how far the list has gone. Assumes nothing.
-use Rattle.std.specs.Prelude.{Bool, true, false, List, ℕ, ◌+◌, ◌/◌, ◌≤◌, eqb, leb, length}
-use Rattle.common.specs.Choice.{if◌then◌else◌}
+use Rattle.std.specs.Prelude.{Bool, true, false, List, ℕ, ◌+◌, ◌/◌, ◌≤◌, eqb, leb, length, if◌then◌else◌}
 use Rattle.line.specs.Frame.{ticks_of}
 use Rattle.flags.specs.declared.Between.{Between}
 use Rattle.flags.specs.Flags.{own_flag, in_all}

@@ -2,8 +2,7 @@
 -- chip by this name alone, so that a wrong chip can be put in its place: an edit of must-fail does
 -- that in the one line, and the names that wrong chips are made of are brought here for it. Assumes
 -- nothing.
-use Rattle.std.specs.Prelude.{true, false, not, ◌&&◌, ◌/◌, eqb}
-use Rattle.common.specs.Choice.{if◌then◌else◌}
+use Rattle.std.specs.Prelude.{true, false, not, ◌&&◌, ◌/◌, eqb, if◌then◌else◌}
 use Rattle.line.specs.Bits.{odd}
 use Rattle.line.specs.Check.{ones}
 use Rattle.shared.specs.Shared.{latched, cleared, check_set}

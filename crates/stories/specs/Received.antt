@@ -1,7 +1,6 @@
 -- What is seen of a channel's receiver in a story: the bits that it hears, what the reads answer,
 -- the entries that they take, and RR1. Assumes nothing.
-use Rattle.std.specs.Prelude.{Bool, true, false, ◌&&◌, List, [], ◌∷◌, ◌++◌, ℕ, eqb, leb}
-use Rattle.common.specs.Choice.{if◌then◌else◌}
+use Rattle.std.specs.Prelude.{Bool, true, false, ◌&&◌, List, [], ◌∷◌, ◌++◌, ℕ, eqb, leb, if◌then◌else◌}
 use Rattle.entry.specs.declared.Entry.{Entry}
 use Rattle.queue.specs.Queue.{oldest, waits}
 use Rattle.queue.specs.Holding.{entry_if}

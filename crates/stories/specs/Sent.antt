@@ -1,7 +1,6 @@
 -- What is seen of a channel's sender: the bits that its ticks put on the line in a story, how many
 -- they are, and RR0 D6. Assumes nothing.
-use Rattle.std.specs.Prelude.{Bool, true, false, List, [], ◌∷◌, ◌++◌, ℕ, ◌+◌, ◌/◌, eqb}
-use Rattle.common.specs.Choice.{if◌then◌else◌}
+use Rattle.std.specs.Prelude.{Bool, true, false, List, [], ◌∷◌, ◌++◌, ℕ, ◌+◌, ◌/◌, eqb, if◌then◌else◌}
 use Rattle.line.specs.Bits.{odd, one_if}
 use Rattle.channel.specs.declared.Answer.{Answer}
 use Rattle.channel.specs.declared.Answer.TheVariants.{Done, Gave, Refused}

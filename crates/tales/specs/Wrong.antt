@@ -1,6 +1,5 @@
 -- How a wrong chip is made: it does what the chip does, and one thing otherwise. Assumes nothing.
-use Rattle.std.specs.Prelude.{◌||◌}
-use Rattle.common.specs.Choice.{if◌then◌else◌}
+use Rattle.std.specs.Prelude.{◌||◌, if◌then◌else◌}
 use Rattle.settings.specs.declared.Registers.{Registers}
 use Rattle.channel.specs.declared.Answer.{Answer}
 use Rattle.channel.specs.declared.Channel.{Channel}

@@ -1,9 +1,8 @@
 -- Ones counted in fives, a bit and a byte at a time, are the run and the zeros inserted. Assumes
 -- nothing.
-use Rattle.std.specs.Prelude.{◌≡◌, refl, Bool, true, false, not, ◌&&◌, ◌||◌, List, [], ◌∷◌, ◌++◌, ℕ, ◌+◌, ◌-◌, ◌*◌, ◌/◌, ◌%◌, ◌≤◌, ◌<◌, T, eqb, ltb}
+use Rattle.std.specs.Prelude.{◌≡◌, refl, Bool, true, false, not, ◌&&◌, ◌||◌, List, [], ◌∷◌, ◌++◌, ℕ, ◌+◌, ◌-◌, ◌*◌, ◌/◌, ◌%◌, ◌≤◌, ◌<◌, T, eqb, ltb, if◌then◌else◌}
 use Rattle.std.proofs.Common.{ap, ap₂, append-nil, arith, eq-eqb, ne_eqb, eqb→eq}
-use Rattle.common.specs.Choice.{if◌then◌else◌}
-use Rattle.common.specs.Tools.{eqb_elim, ltb_elim, if_elim, below, below→, and_left, and_right}
+use Rattle.common.specs.Tools.{eqb_elim, ltb_elim, if_elim, below→, and_left, and_right}
 use Rattle.common.specs.Tools.{void}
 use Rattle.line.specs.Bits.{low_bits, text_bits, one_if}
 use Rattle.line.specs.Insertion.{run_after, zeros, run_over}

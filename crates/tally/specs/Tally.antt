@@ -1,7 +1,6 @@
 -- Ones counted in fives: behind each five that is closed a zero is inserted, and the ones beyond
 -- the closed fives are the run. Assumes nothing.
-use Rattle.std.specs.Prelude.{Bool, true, false, List, ℕ, ◌+◌, ◌-◌, ◌*◌, ◌≤◌, ◌<◌, eqb, ltb}
-use Rattle.common.specs.Choice.{if◌then◌else◌}
+use Rattle.std.specs.Prelude.{Bool, true, false, List, ℕ, ◌+◌, ◌-◌, ◌*◌, ◌≤◌, ◌<◌, eqb, ltb, if◌then◌else◌}
 use Rattle.line.specs.Insertion.{zeros, run_over}
 use Rattle.tally.specs.declared.Tally.{Tally}
 

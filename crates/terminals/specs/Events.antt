@@ -1,9 +1,8 @@
 -- The chip meets the receiving side: what a receive tick and a data read of a channel do to it.
 -- Assumes nothing.
-use Rattle.std.specs.Prelude.{◌≡◌, Bool, true, false, List, [], ◌∷◌, ◌++◌}
+use Rattle.std.specs.Prelude.{◌≡◌, Bool, true, false, List, [], ◌∷◌, ◌++◌, if◌then◌else◌}
 use Rattle.std.proofs.Math.Path.{refl}
 use Rattle.std.proofs.Common.{ap, ◌∙◌}
-use Rattle.common.specs.Choice.{if◌then◌else◌}
 use Rattle.common.specs.Mode.{in_blocks}
 use Rattle.queue.specs.Queue.{taken}
 use Rattle.bytesync.specs.declared.Matched.{Matched}

@@ -1,7 +1,6 @@
 -- Enter Hunt in Monosync and Bisync: the search starts again, and RR0 D4 shows it. Assumes nothing.
-use Rattle.std.specs.Prelude.{◌≡◌, refl, Bool, true, false, ◌&&◌, ◌||◌, ℕ, eqb}
+use Rattle.std.specs.Prelude.{◌≡◌, refl, Bool, true, false, ◌&&◌, ◌||◌, ℕ, eqb, if◌then◌else◌}
 use Rattle.std.proofs.Common.{ap, ◌∙◌}
-use Rattle.common.specs.Choice.{if◌then◌else◌}
 use Rattle.common.specs.Mode.{in_sdlc, in_blocks, of_blocks, synchronous}
 use Rattle.common.specs.Tools.{if_elim}
 use Rattle.common.specs.declared.Mode.{Mode}

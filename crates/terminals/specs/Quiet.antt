@@ -1,10 +1,9 @@
 -- Which events leave the receiving side of a channel as it was: a test that a reader can run, and
 -- the proof that it is enough. Of its own a mode here says WR3, WR5 and WR7; WR3 D3 may be written
 -- as the host likes. Assumes nothing.
-use Rattle.std.specs.Prelude.{◌≡◌, Bool, true, false, not, ◌&&◌, ◌||◌, ℕ}
+use Rattle.std.specs.Prelude.{◌≡◌, Bool, true, false, not, ◌&&◌, ◌||◌, ℕ, if◌then◌else◌}
 use Rattle.std.proofs.Common.{ap, ◌∙◌}
 use Rattle.std.specs.Bool.{beq}
-use Rattle.common.specs.Choice.{if◌then◌else◌}
 use Rattle.common.specs.Mode.{synchronous}
 use Rattle.common.specs.Tools.{void, both_left, both_right, not_true}
 use Rattle.bytesync.specs.Syncs.{polynomial_of}

@@ -1,9 +1,8 @@
 -- The receive check of a chip in Monosync or Bisync, at every moment. Assumes nothing.
-use Rattle.std.specs.Prelude.{◌≡◌, Bool, true, List, [], ◌∷◌, ℕ}
+use Rattle.std.specs.Prelude.{◌≡◌, Bool, true, List, [], ◌∷◌, ℕ, if◌then◌else◌}
 use Rattle.std.proofs.Math.Path.{refl}
 use Rattle.std.proofs.Common.{sym, ap, ap₂, ◌∙◌, subst}
 use Rattle.std.proofs.Math.Bool.{false}
-use Rattle.common.specs.Choice.{if◌then◌else◌}
 use Rattle.common.specs.Mode.{in_blocks}
 use Rattle.common.specs.Tools.{bool_or, void}
 use Rattle.shared.specs.Preset.{zeros}

@@ -1,9 +1,8 @@
 -- What RR0 and RR1 show of the receiver in Monosync and Bisync: D6 of RR1 is the check's, at all
 -- times, and D4 of RR0 is hunt. Assumes nothing.
-use Rattle.std.specs.Prelude.{◌≡◌, Bool, true, ℕ, ◌+◌, ◌*◌, ◌/◌, ◌≤◌}
+use Rattle.std.specs.Prelude.{◌≡◌, Bool, true, ℕ, ◌+◌, ◌*◌, ◌/◌, ◌≤◌, if◌then◌else◌}
 use Rattle.std.proofs.Common.{ap, ◌∙◌, arith}
 use Rattle.common.specs.Bit.{placed}
-use Rattle.common.specs.Choice.{if◌then◌else◌}
 use Rattle.common.specs.Mode.{in_blocks}
 use Rattle.line.specs.Bits.{odd, one_if}
 use Rattle.line.specs.Laws.Bits.{odd_joined}

@@ -1,7 +1,6 @@
 -- Demand 2 for Monosync and Bisync, over stories in which everything else may happen too, for
 -- either channel of any chip and both polynomials. Proofs: Demand, Register, Hunt. Assumes nothing.
-use Rattle.std.specs.Prelude.{◌≡◌, ◌≢◌, Bool, true, false, not, List, [], ◌∷◌, ◌++◌, ℕ, ◌+◌, ◌/◌, ◌<◌, length}
-use Rattle.common.specs.Choice.{if◌then◌else◌}
+use Rattle.std.specs.Prelude.{◌≡◌, ◌≢◌, Bool, true, false, not, List, [], ◌∷◌, ◌++◌, ℕ, ◌+◌, ◌/◌, ◌<◌, length, if◌then◌else◌}
 use Rattle.common.specs.Mode.{in_blocks}
 use Rattle.line.specs.Bits.{odd, text_bits, Below}
 use Rattle.shared.specs.Preset.{zeros}

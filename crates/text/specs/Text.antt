@@ -1,6 +1,5 @@
 -- A line of text, put together byte by byte. Assumes nothing.
-use Rattle.std.specs.Prelude.{List, [], ◌∷◌, ℕ, ◌+◌, ◌/◌, ◌%◌, ltb, set, replicate}
-use Rattle.common.specs.Choice.{if◌then◌else◌}
+use Rattle.std.specs.Prelude.{List, [], ◌∷◌, ℕ, ◌+◌, ◌/◌, ◌%◌, ltb, set, replicate, if◌then◌else◌}
 use Rattle.text.specs.declared.Line.{Line}
 
 -- in ASCII

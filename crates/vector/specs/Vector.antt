@@ -1,7 +1,6 @@
 -- 01, Interrupts and external status: the vector of a source, and what an acknowledge answers.
 -- A source's level: 0 A's receive, 1 transmit, 2 external, 3 to 5 B's, 6 none. Assumes nothing.
-use Rattle.std.specs.Prelude.{Bool, true, false, ℕ, ◌+◌, ◌*◌, ◌/◌, ◌%◌, eqb}
-use Rattle.common.specs.Choice.{if◌then◌else◌}
+use Rattle.std.specs.Prelude.{Bool, true, false, ℕ, ◌+◌, ◌*◌, ◌/◌, ◌%◌, eqb, if◌then◌else◌}
 use Rattle.common.specs.Refusal.{number_of}
 use Rattle.common.specs.declared.Refusal.TheVariants as refusal
 use Rattle.vector.specs.declared.Special.{Special}

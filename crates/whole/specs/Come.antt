@@ -3,8 +3,7 @@
 -- is written in time; in an abort, to the end of the flag behind it. The laws (Laws/Come): a tick
 -- in time takes the first of these bits (`takes`), a write into the empty buffer changes none of
 -- them (`moves`), nor does a write once the latch is set (`later`). Assumes nothing.
-use Rattle.std.specs.Prelude.{Bool, true, false, List, [], ◌∷◌, ◌++◌, ℕ, zero, suc, replicate}
-use Rattle.common.specs.Choice.{if◌then◌else◌}
+use Rattle.std.specs.Prelude.{Bool, true, false, List, [], ◌∷◌, ◌++◌, ℕ, zero, suc, replicate, if◌then◌else◌}
 use Rattle.line.specs.Bits.{low_bits, text_bits}
 use Rattle.line.specs.Check.{sdlc, check_over, top_bits, check_bits}
 use Rattle.line.specs.Insertion.{zero_if, stuff}

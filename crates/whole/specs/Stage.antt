@@ -1,8 +1,7 @@
 -- Demand 3: "each next one after the buffer empties and before the eighth tick after that". The
 -- ticks since the buffer emptied, when a tick is in time, and the stages through which a frame in
 -- time goes. Assumes nothing.
-use Rattle.std.specs.Prelude.{Bool, true, false, not, ◌&&◌, ◌||◌, List, [], ◌∷◌, ℕ, ◌+◌, ◌≤◌, ltb}
-use Rattle.common.specs.Choice.{if◌then◌else◌}
+use Rattle.std.specs.Prelude.{Bool, true, false, not, ◌&&◌, ◌||◌, List, [], ◌∷◌, ℕ, ◌+◌, ◌≤◌, ltb, if◌then◌else◌}
 use Rattle.shared.specs.Shared.{shared}
 use Rattle.sdlc.specs.declared.LineUnit.TheVariants.{Flag, Byte, Check, Abort}
 use Rattle.sdlc.specs.declared.Framer.{Framer}

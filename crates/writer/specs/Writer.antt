@@ -1,7 +1,6 @@
 -- 01, Note list and line: what the line writer answers, and what it leaves in the caller's buffer.
 -- Assumes nothing.
-use Rattle.std.specs.Prelude.{Bool, List, ◌++◌, ℕ, ◌+◌, ◌-◌, ltb, length, take, drop}
-use Rattle.common.specs.Choice.{if◌then◌else◌}
+use Rattle.std.specs.Prelude.{Bool, List, ◌++◌, ℕ, ◌+◌, ◌-◌, ltb, length, take, drop, if◌then◌else◌}
 use Rattle.common.specs.declared.Refusal.TheVariants.{NoteLength, NoRoom}
 use Rattle.line.specs.Bits.{cells}
 use Rattle.line.specs.Frame.{zeros_of, ticks_of}

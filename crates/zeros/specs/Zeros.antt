@@ -1,6 +1,5 @@
 -- What the zero count answers. Assumes nothing.
-use Rattle.std.specs.Prelude.{List, ℕ, length}
-use Rattle.common.specs.Choice.{if◌then◌else◌}
+use Rattle.std.specs.Prelude.{List, ℕ, length, if◌then◌else◌}
 use Rattle.common.specs.declared.Refusal.TheVariants.{NoteLength}
 use Rattle.line.specs.Line.{note_fits}
 use Rattle.line.specs.Frame.{zeros_of, ticks_of}

@@ -1,7 +1,7 @@
 -- Laws of the advance over zeros: it is a multiplication, so that it goes by halves. In sections: a
 -- number and its lowest bit, zeros, a product with 1, the advance, the product's loop.
 -- Assumes nothing.
-use Rattle.std.specs.Prelude.{◌≡◌, ◌≢◌, Bool, true, false, replicate, eqb}
+use Rattle.std.specs.Prelude.{◌≡◌, ◌≢◌, Bool, true, false, replicate, eqb, if◌then◌else◌}
 use Rattle.std.proofs.Math.Path.{refl, sym, ap, ap₂}
 use Rattle.std.proofs.Common.{◌∙◌, mul_assoc, mul_comm, add-mul, mul-add, zero-mul, one-mul, pow_pos}
 use mathlib.Core.List.{List, [], ◌∷◌}
@@ -11,7 +11,6 @@ use native.Mathlib.Omega.{arith}
 use Rattle.std.specs.Int.Bits.{bit_xor, xor_comm, xor_self, xor_shifted}
 use Rattle.std.proofs.lemmas.List.{length-replicate, replicate-append-replicate}
 use Rattle.std.proofs.Math.Pow.{pow-lt}
-use Rattle.common.specs.Choice.{if◌then◌else◌}
 use Rattle.common.specs.Tools.{two_cases}
 use Rattle.line.specs.Bits.{odd, low_bits}
 use Rattle.line.specs.Check.{check_step, check_over}

@@ -1,6 +1,5 @@
 -- Wrong chips that do not tell the tales of Latching: latched status. Assumes nothing.
-use Rattle.std.specs.Prelude.{refl, false, not, ◌&&◌}
-use Rattle.common.specs.Choice.{if◌then◌else◌}
+use Rattle.std.specs.Prelude.{refl, false, not, ◌&&◌, if◌then◌else◌}
 use Rattle.channel.specs.Channel.{with_status}
 use Rattle.tales.specs.Tale.{Happens, telling}
 use Rattle.tales.specs.Kind.{is_lines, is_command}

@@ -1,6 +1,5 @@
 -- Wrong chips that do not tell the tales of Pending: which sources are pending. Assumes nothing.
-use Rattle.std.specs.Prelude.{refl, true, false, not, ◌&&◌, eqb}
-use Rattle.common.specs.Choice.{if◌then◌else◌}
+use Rattle.std.specs.Prelude.{refl, true, false, not, ◌&&◌, eqb, if◌then◌else◌}
 use Rattle.settings.specs.Settings.{receive_mode}
 use Rattle.channel.specs.Channel.{with_armed, with_transmit}
 use Rattle.tales.specs.Tale.{Happens, telling}

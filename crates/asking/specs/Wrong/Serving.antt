@@ -1,7 +1,6 @@
 -- Wrong chips that do not tell the tales of Serving: acknowledge, RETI and command 7. Assumes
 -- nothing.
-use Rattle.std.specs.Prelude.{refl, false, not, ◌&&◌, eqb}
-use Rattle.common.specs.Choice.{if◌then◌else◌}
+use Rattle.std.specs.Prelude.{refl, false, not, ◌&&◌, eqb, if◌then◌else◌}
 use Rattle.common.specs.declared.Refusal.TheVariants as refusal
 use Rattle.interrupts.specs.Interrupts.{six, no_sources, any_of}
 use Rattle.settings.specs.Settings.{command_in}

@@ -1,7 +1,6 @@
 -- Wrong chips that do not tell the tales of Vectors: priority, vectors, RR2 and RR0 D1. Assumes
 -- nothing.
-use Rattle.std.specs.Prelude.{refl, false, not, ◌&&◌, ◌+◌, ◌-◌, eqb}
-use Rattle.common.specs.Choice.{if◌then◌else◌}
+use Rattle.std.specs.Prelude.{refl, false, not, ◌&&◌, ◌+◌, ◌-◌, eqb, if◌then◌else◌}
 use Rattle.interrupts.specs.Interrupts.{may_take}
 use Rattle.settings.specs.Settings.{receive_mode}
 use Rattle.channel.specs.declared.Answer.TheVariants.{Gave}

@@ -1,10 +1,9 @@
 -- Off: the unit under way ends, then marks; latch, buffer and check stay. Assumes nothing.
-use Rattle.std.specs.Prelude.{◌≡◌, Bool, false, ℕ, zero, suc, ◌+◌, ◌/◌, replicate}
+use Rattle.std.specs.Prelude.{◌≡◌, Bool, false, ℕ, zero, suc, ◌+◌, ◌/◌, replicate, if◌then◌else◌}
 use Rattle.std.proofs.Math.Path.{refl, ap}
 use Rattle.std.proofs.Common.{◌∙◌, arith}
 use Rattle.std.proofs.Math.Bool.{true}
 use mathlib.Core.List.{List, [], ◌∷◌, ◌++◌}
-use Rattle.common.specs.Choice.{if◌then◌else◌}
 use Rattle.line.specs.Bits.{odd, low_bits}
 use Rattle.line.specs.Check.{top, shifted, top_bits}
 use Rattle.shared.specs.declared.Shared.{Shared}

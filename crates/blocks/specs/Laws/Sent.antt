@@ -1,9 +1,8 @@
 -- Blocks sent in time: the line from the sync on is sync, bytes, check, what goes straight behind
 -- it, sync; at every moment what was sent and what is to come are that; and a second block follows
 -- in the sync behind the first. Assumes nothing.
-use Rattle.std.specs.Prelude.{◌≡◌, refl, Bool, true, false, List, [], ◌∷◌, ◌++◌, ℕ, suc, ◌+◌, ◌*◌, ◌-◌, ◌/◌, ◌^◌, ◌≤◌, ◌<◌, length, take}
+use Rattle.std.specs.Prelude.{◌≡◌, refl, Bool, true, false, List, [], ◌∷◌, ◌++◌, ℕ, suc, ◌+◌, ◌*◌, ◌-◌, ◌/◌, ◌^◌, ◌≤◌, ◌<◌, length, take, if◌then◌else◌}
 use Rattle.std.proofs.Common.{sym, ap, ap₂, ◌∙◌, append_assoc, append-nil, arith, length-append, take_at}
-use Rattle.common.specs.Choice.{if◌then◌else◌}
 use Rattle.common.specs.Tools.{void, no_items}
 use Rattle.line.specs.Bits.{low_bits, text_bits}
 use Rattle.line.specs.Check.{top_bits}

@@ -1,8 +1,7 @@
 -- What a history gives is kept by every tick. Assumes nothing.
-use Rattle.std.specs.Prelude.{Bool, true, false, not, ◌&&◌, ℕ, ◌+◌, ◌≤◌, eqb, ltb}
+use Rattle.std.specs.Prelude.{Bool, true, false, not, ◌&&◌, ℕ, ◌+◌, ◌≤◌, eqb, ltb, if◌then◌else◌}
 use Rattle.std.proofs.Common.{arith}
 use borrow.Author.Tests.{ltb-true}
-use Rattle.common.specs.Choice.{if◌then◌else◌}
 use Rattle.common.specs.Tools.{if_elim, by_test, ltb_elim}
 use Rattle.shared.specs.declared.Shared.{Shared}
 use Rattle.bytesync.specs.declared.Syncs.{Syncs}

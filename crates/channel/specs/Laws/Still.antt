@@ -1,8 +1,7 @@
 -- Ticks that change nothing of what the status rule sees. Assumes nothing.
-use Rattle.std.specs.Prelude.{◌≡◌, refl, Bool, true, false, not, ◌&&◌, ◌||◌}
+use Rattle.std.specs.Prelude.{◌≡◌, refl, Bool, true, false, not, ◌&&◌, ◌||◌, if◌then◌else◌}
 use Rattle.std.proofs.Common.{sym, ap, ◌∙◌}
 use Rattle.std.specs.Bool.{beq}
-use Rattle.common.specs.Choice.{if◌then◌else◌}
 use Rattle.common.specs.Mode.{in_sdlc, in_blocks}
 use Rattle.common.specs.Tools.{by_test, void, both_left, both_right, beq→}
 use Rattle.common.specs.declared.Mode.{Mode}

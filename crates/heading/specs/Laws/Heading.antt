@@ -1,9 +1,8 @@
 -- Laws of headings: with a body, by its text or by its check, a heading gives the check of the
 -- whole note. Assumes nothing.
-use Rattle.std.specs.Prelude.{◌≡◌, refl, List, ◌++◌, false, ℕ, ◌+◌, ◌<◌, length}
+use Rattle.std.specs.Prelude.{◌≡◌, refl, List, ◌++◌, false, ℕ, ◌+◌, ◌<◌, length, if◌then◌else◌}
 use Rattle.std.proofs.Common.{sym, ap, ap₂, ◌∙◌, arith, ne_eqb, length-append}
 use Rattle.std.proofs.lemmas.Bool.{lt-leb}
-use Rattle.common.specs.Choice.{if◌then◌else◌}
 use Rattle.common.specs.Tools.{bool_or}
 use Rattle.common.specs.declared.Refusal.TheVariants.{NoteLength}
 use Rattle.line.specs.Check.{sdlc, ones, complement, check_over, top_bits, check_bits}

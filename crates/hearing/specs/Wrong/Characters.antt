@@ -1,6 +1,5 @@
 -- Wrong chips that do not tell the tales of Characters: asynchronous receiving. Assumes nothing.
-use Rattle.std.specs.Prelude.{refl, true, false, not, ◌&&◌, ℕ, ◌+◌, ◌-◌, ◌*◌, ◌/◌, ◌%◌, ◌^◌, eqb}
-use Rattle.common.specs.Choice.{if◌then◌else◌}
+use Rattle.std.specs.Prelude.{refl, true, false, not, ◌&&◌, ℕ, ◌+◌, ◌-◌, ◌*◌, ◌/◌, ◌%◌, ◌^◌, eqb, if◌then◌else◌}
 use Rattle.shapes.specs.Shapes.{shape_bits}
 use Rattle.asynchronous.specs.Hearing.{no_assembly}
 use Rattle.settings.specs.Settings.{store3, store4, auto_enables, heard_field, parity_on, even_parity}

@@ -1,6 +1,5 @@
 -- Wrong chips that do not tell the tales of Entries: the queue. Assumes nothing.
-use Rattle.std.specs.Prelude.{refl, Bool, true, not, ◌&&◌, eqb, get_or, set}
-use Rattle.common.specs.Choice.{if◌then◌else◌}
+use Rattle.std.specs.Prelude.{refl, Bool, true, not, ◌&&◌, eqb, get_or, set, if◌then◌else◌}
 use Rattle.entry.specs.declared.Entry.{Entry}
 use Rattle.entry.specs.Entry.{no_entry}
 use Rattle.queue.specs.Queue.{oldest, queue}

@@ -1,6 +1,5 @@
 -- Wrong chips that do not tell the tales of Frames: SDLC receiving. Assumes nothing.
-use Rattle.std.specs.Prelude.{refl, Bool, true, false, not, ◌&&◌, ℕ, eqb}
-use Rattle.common.specs.Choice.{if◌then◌else◌}
+use Rattle.std.specs.Prelude.{refl, Bool, true, false, not, ◌&&◌, ℕ, eqb, if◌then◌else◌}
 use Rattle.sdlc.specs.Hearing.{content, no_chars}
 use Rattle.settings.specs.Settings.{searches}
 use Rattle.chip.specs.Event.{Event}

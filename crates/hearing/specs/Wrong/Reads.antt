@@ -1,7 +1,6 @@
 -- Wrong chips that do not tell the tales of Reads: what a data read answers. Assumes nothing.
-use Rattle.std.specs.Prelude.{refl, Bool, false, ◌&&◌, eqb, ltb}
+use Rattle.std.specs.Prelude.{refl, Bool, false, ◌&&◌, eqb, ltb, if◌then◌else◌}
 use Rattle.std.proofs.Common.{ap}
-use Rattle.common.specs.Choice.{if◌then◌else◌}
 use Rattle.common.specs.declared.Refusal.TheVariants as refusal
 use Rattle.queue.specs.Queue.{error_reset}
 use Rattle.channel.specs.declared.Answer.TheVariants.{Refused}

@@ -1,9 +1,8 @@
 -- The chip meets the receiving side: what a receive tick and a data read of a channel do to it, and
 -- what the reads answer. Assumes nothing.
-use Rattle.std.specs.Prelude.{◌≡◌, Bool, true, false, not, ◌&&◌, ◌||◌, List, [], ◌∷◌, ◌++◌, ℕ, eqb, ltb}
+use Rattle.std.specs.Prelude.{◌≡◌, Bool, true, false, not, ◌&&◌, ◌||◌, List, [], ◌∷◌, ◌++◌, ℕ, eqb, ltb, if◌then◌else◌}
 use Rattle.std.proofs.Math.Path.{refl}
 use Rattle.std.proofs.Common.{sym, ap, ap₂, ◌∙◌, append-nil}
-use Rattle.common.specs.Choice.{if◌then◌else◌}
 use Rattle.common.specs.Tools.{by_test, bool_or, void}
 use Rattle.common.specs.declared.Mode.TheVariants.{Sdlc}
 use Rattle.entry.specs.declared.Entry.{Entry}

@@ -1,7 +1,6 @@
 -- An event by what it is to a receiver: what holds of its tick, of its read and of anything else
 -- holds of every event. Assumes nothing.
-use Rattle.std.specs.Prelude.{Bool, true, false, ℕ, leb}
-use Rattle.common.specs.Choice.{if◌then◌else◌}
+use Rattle.std.specs.Prelude.{Bool, true, false, ℕ, leb, if◌then◌else◌}
 use Rattle.common.specs.Tools.{eqb_elim}
 use Rattle.common.specs.declared.Refusal.TheVariants as refusal
 use Rattle.channel.specs.declared.Answer.TheVariants.{Done, Refused}

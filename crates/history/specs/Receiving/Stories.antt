@@ -33,14 +33,14 @@ hears_where may quiet w c st =
 module _ {X : Type 0} (side : Chip → X) (May : Chip → Bool → Type 0) (may : Chip → Bool → Bool)
     (quiet : Chip → Event → Bool)
     (may-holds : (c : Chip) (b : Bool) → may c b ≡ true → May c b)
-    (Quiet-keeps : (c : Chip) (e : Event) → quiet c e ≡ true → side (happens c e).chip ≡ side c)
+    (quiet_keeps : (c : Chip) (e : Event) → quiet c e ≡ true → side (happens c e).chip ≡ side c)
     (w : Which) where
   one_more_lem : (c : Chip) (e : Event) (st : List Event) (r : ToReceiver) → to_receiver w e ≡ r
       → heard_where may quiet c e r ≡ true → HearsWhere side May w (happens c e).chip st
       → HearsWhere side May w c (e ∷ st)
   one_more_lem c e st (Hears b) p a f = hears p (may-holds c b a) f
   one_more_lem c e st Reads p a f = reads p f
-  one_more_lem c e st Else p a f = still p (Quiet-keeps c e a) f
+  one_more_lem c e st Else p a f = still p (quiet_keeps c e a) f
 
   pub hears_where_lem : (c : Chip) (st : List Event) → hears_where may quiet w c st ≡ true
       → HearsWhere side May w c st

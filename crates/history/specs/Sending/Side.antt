@@ -1,8 +1,7 @@
 -- The sender's side of a channel: SDLC's part of its sender, and what SDLC heeds of its settings.
 -- Assumes nothing.
-use Rattle.std.specs.Prelude.{◌≡◌, Bool, false, ℕ}
+use Rattle.std.specs.Prelude.{◌≡◌, Bool, false, ℕ, if◌then◌else◌}
 use Rattle.std.proofs.Common.{ap}
-use Rattle.common.specs.Choice.{if◌then◌else◌}
 use Rattle.common.specs.Tools.{eqb_elim}
 use Rattle.common.specs.declared.Mode.{Mode}
 use Rattle.common.specs.declared.Mode.TheVariants.{Sdlc}

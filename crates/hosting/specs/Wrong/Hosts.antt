@@ -1,6 +1,5 @@
 -- Wrong chips that do not tell the tales of Hosts: late, idle or aborting. Assumes nothing.
-use Rattle.std.specs.Prelude.{refl, Bool, true, false, not, ◌&&◌, eqb}
-use Rattle.common.specs.Choice.{if◌then◌else◌}
+use Rattle.std.specs.Prelude.{refl, Bool, true, false, not, ◌&&◌, eqb, if◌then◌else◌}
 use Rattle.sdlc.specs.declared.LineUnit.{LineUnit}
 use Rattle.sdlc.specs.declared.LineUnit.TheVariants.{Mark, Flag, Byte, Check, Abort}
 use Rattle.sdlc.specs.Sending.{aborting, checking, no_bit_left}

@@ -1,6 +1,5 @@
 -- Wrong chips that do not tell the tales of Bisync. Assumes nothing.
-use Rattle.std.specs.Prelude.{refl, true, false, ◌&&◌, ◌/◌, eqb, ltb}
-use Rattle.common.specs.Choice.{if◌then◌else◌}
+use Rattle.std.specs.Prelude.{refl, true, false, ◌&&◌, ◌/◌, eqb, ltb, if◌then◌else◌}
 use Rattle.bytesync.specs.Hearing.{no_block, reception}
 use Rattle.tales.specs.Tale.{Happens, telling}
 use Rattle.tales.specs.Kind.{is_bit}

@@ -1,6 +1,5 @@
 -- Wrong chips that do not tell the tales of Receiving: Monosync, heard. Assumes nothing.
-use Rattle.std.specs.Prelude.{refl, true, false, not, ◌&&◌, ◌-◌, ◌%◌, eqb}
-use Rattle.common.specs.Choice.{if◌then◌else◌}
+use Rattle.std.specs.Prelude.{refl, true, false, not, ◌&&◌, ◌-◌, ◌%◌, eqb, if◌then◌else◌}
 use Rattle.common.specs.Mode.{in_blocks}
 use Rattle.line.specs.Bits.{low_bits}
 use Rattle.line.specs.Check.{ones, check_over}

@@ -1,6 +1,5 @@
 -- Wrong chips that do not tell the tales of Sending: Monosync, sent. Assumes nothing.
-use Rattle.std.specs.Prelude.{refl, false, ◌&&◌, ◌-◌}
-use Rattle.common.specs.Choice.{if◌then◌else◌}
+use Rattle.std.specs.Prelude.{refl, false, ◌&&◌, ◌-◌, if◌then◌else◌}
 use Rattle.line.specs.Bits.{low_bits}
 use Rattle.line.specs.Check.{ones, check_over}
 use Rattle.settings.specs.Settings.{crc16_chosen, polynomial_in}

@@ -1,5 +1,5 @@
 -- Laws of the check register, over any polynomial p and any streams of bits. Assumes nothing.
-use Rattle.std.specs.Prelude.{◌≡◌, Bool, true, length, replicate}
+use Rattle.std.specs.Prelude.{◌≡◌, Bool, true, length, replicate, if◌then◌else◌}
 use Rattle.std.proofs.Math.Path.{refl, sym, ap}
 use Rattle.std.proofs.Common.{◌∙◌, mod-lt, zero-lt-suc, pow-suc, mul_comm, mul_assoc, add-mul, zero-mul, pow_pos, pow-add, shl_lt}
 use Rattle.std.proofs.Math.Bool.{false}
@@ -10,7 +10,6 @@ use native.Mathlib.Omega.{arith}
 use Rattle.std.proofs.Math.Arith.{mod-mul}
 use Rattle.std.specs.Int.Bits.{bit_xor, xor_self, xor_zero_l, xor_zero_r}
 use Rattle.std.proofs.lemmas.Nat.{xor_comm, xor_lt}
-use Rattle.common.specs.Choice.{if◌then◌else◌}
 use Rattle.common.specs.Tools.{if_elim}
 use Rattle.line.specs.Bits.{one_if}
 use Rattle.line.specs.Check.{sdlc, ones, top, shifted, differs, check_step, check_over, top_bits}

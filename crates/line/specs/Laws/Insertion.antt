@@ -1,8 +1,7 @@
 -- Laws of zero insertion, over any stream of bits: joining, lengths, the way back, and no six ones
 -- in a row. Assumes nothing.
-use Rattle.std.specs.Prelude.{◌≡◌, refl, ◌≢◌, Bool, true, false, not, List, [], ◌∷◌, ◌++◌, ℕ, suc, ◌+◌, ◌*◌, ◌≤◌, ◌<◌, length, replicate}
+use Rattle.std.specs.Prelude.{◌≡◌, refl, ◌≢◌, Bool, true, false, not, List, [], ◌∷◌, ◌++◌, ℕ, suc, ◌+◌, ◌*◌, ◌≤◌, ◌<◌, length, replicate, if◌then◌else◌}
 use Rattle.std.proofs.Common.{ap, append_assoc, arith, length-append, ne_eqb, le-ltb, lt-ltb}
-use Rattle.common.specs.Choice.{if◌then◌else◌}
 use Rattle.common.specs.Tools.{ltb_elim}
 use Rattle.line.specs.Bits.{one_if}
 use Rattle.line.specs.Insertion.{owes, run_after, counted, zero_if, stuff, zeros, run_over}

@@ -1,8 +1,7 @@
 -- The line of a list that a station sends: behind the first flag it is the notes' frames, joined as
 -- the choice says, whatever the chip was. Assumes nothing.
-use Rattle.std.specs.Prelude.{◌≡◌, refl, Bool, true, false, not, ◌&&◌, List, [], ◌∷◌, ◌++◌, ℕ, length, drop}
+use Rattle.std.specs.Prelude.{◌≡◌, refl, Bool, true, false, not, ◌&&◌, List, [], ◌∷◌, ◌++◌, ℕ, length, drop, if◌then◌else◌}
 use Rattle.std.proofs.Common.{ap, ap₂, ◌∙◌, append_assoc}
-use Rattle.common.specs.Choice.{if◌then◌else◌}
 use Rattle.common.specs.Tools.{void}
 use Rattle.line.specs.Frame.{flag_bits}
 use Rattle.flags.specs.declared.Between.{Between}
@@ -65,11 +64,11 @@ note_line_lem : (c : Chip) (v : ℕ) (vs : List ℕ) → Behind c
     → note_line c (v ∷ vs) ≡ flags.behind_flag (v ∷ vs)
 unfolding driven_line
 note_line_lem c v vs b =
-    let frame_line = driven_line (ticks_left (v ∷ vs)) (frame_opened c v) vs in
+    let driven = driven_line (ticks_left (v ∷ vs)) (frame_opened c v) vs in
     let unit = ap (λ (s : Framer). s.unit) b.stands.sends in
-    ap (λ (d : Chip). driven_line (ticks_to_flag d.a.sender.unit) d [] ++ frame_line)
+    ap (λ (d : Chip). driven_line (ticks_to_flag d.a.sender.unit) d [] ++ driven)
     (prepared_same c b)
-    ∙ ap (λ (u : LineUnit). driven_line (ticks_to_flag u) c [] ++ frame_line) unit
+    ∙ ap (λ (u : LineUnit). driven_line (ticks_to_flag u) c [] ++ driven) unit
     ∙ frame_line c v vs
 
 sent_behind : (c : Chip) (v : ℕ) (vs : List ℕ) → Behind (sent_by c (v ∷ vs))

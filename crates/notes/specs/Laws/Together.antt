@@ -1,5 +1,5 @@
 -- Reading a list and putting it together undo each other. Assumes nothing.
-use Rattle.std.specs.Prelude.{◌≡◌, not, List, [], ◌∷◌, ◌++◌, ltb, length, get_or, take, drop}
+use Rattle.std.specs.Prelude.{◌≡◌, not, List, [], ◌∷◌, ◌++◌, ltb, length, get_or, take, drop, if◌then◌else◌}
 use Rattle.std.proofs.Math.Path.{refl}
 use Rattle.std.proofs.Common.{sym, ap, ap₂, subst, ◌∙◌, arith, add-zero, add-one, length-append, length-drop, drop_of_length-le, take-append-drop, drop-cons, drop-drop, get_or-drop, le-ltb}
 use Rattle.std.proofs.Math.Bool.{true}
@@ -7,7 +7,6 @@ use Prim.Native.Nat.{ℕ, zero, suc, ◌+◌, ◌-◌, ◌/◌, ◌%◌, ◌≤�
 use Rattle.std.proofs.Math.Numerals.{add-two}
 use Rattle.std.proofs.Math.Dec.{eqb-suc-zero}
 use Rattle.std.proofs.Math.Seq.{take-append_seam, drop-append_seam}
-use Rattle.common.specs.Choice.{if◌then◌else◌}
 use Rattle.common.specs.Tools.{eqb_elim, if_elim}
 use Rattle.common.specs.declared.Refusal.TheVariants.{NoList}
 use Rattle.line.specs.Line.{note_fits}

@@ -1,8 +1,7 @@
 -- A call is refused with the number of the first row of the paper's table that holds, and with
 -- none if none does; a refused call changes nothing. Assumes nothing.
-use Rattle.std.specs.Prelude.{◌≡◌, refl, ◌≢◌, ◌⊎◌, Bool, true, false, not, ◌&&◌, ◌||◌, List, [], ◌∷◌, ℕ, zero, suc, eqb, leb}
+use Rattle.std.specs.Prelude.{◌≡◌, refl, ◌≢◌, ◌⊎◌, Bool, true, false, not, ◌&&◌, ◌||◌, List, [], ◌∷◌, ℕ, zero, suc, eqb, leb, if◌then◌else◌}
 use Rattle.std.proofs.Common.{ap, inl, inr, ⊎_elim, arith, eqb-true, le-leb, ne_eqb}
-use Rattle.common.specs.Choice.{if◌then◌else◌}
 use Rattle.common.specs.Tools.{if_elim, by_test, bool_or}
 use Rattle.common.specs.declared.Refusal.TheVariants as refusal
 use Rattle.queue.specs.Queue.{waits}

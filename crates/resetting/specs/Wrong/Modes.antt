@@ -1,6 +1,5 @@
 -- Wrong chips that do not tell the tales of Modes: what a change of mode does. Assumes nothing.
-use Rattle.std.specs.Prelude.{refl, false, ◌&&◌, eqb}
-use Rattle.common.specs.Choice.{if◌then◌else◌}
+use Rattle.std.specs.Prelude.{refl, false, ◌&&◌, eqb, if◌then◌else◌}
 use Rattle.line.specs.Check as check
 use Rattle.sender.specs.Sender.{idled}
 use Rattle.channel.specs.Channel.{with_sender, with_pointer, with_transmit}

@@ -1,6 +1,5 @@
 -- Wrong chips that do not tell the tales of Resets: what a reset does. Assumes nothing.
-use Rattle.std.specs.Prelude.{refl, false}
-use Rattle.common.specs.Choice.{if◌then◌else◌}
+use Rattle.std.specs.Prelude.{refl, false, if◌then◌else◌}
 use Rattle.interrupts.specs.Interrupts.{six, no_sources, no_six}
 use Rattle.channel.specs.Channel.{with_status, with_lines, with_armed}
 use Rattle.chip.specs.Interrupts.{with_b, in_service}

@@ -1,9 +1,8 @@
 -- What a history gives is kept by every tick and by Send Abort. Assumes nothing.
-use Rattle.std.specs.Prelude.{refl, Bool, not, ◌&&◌, ℕ, ◌+◌, ◌≤◌, ◌<◌, eqb, ltb}
+use Rattle.std.specs.Prelude.{refl, Bool, not, ◌&&◌, ℕ, ◌+◌, ◌≤◌, ◌<◌, eqb, ltb, if◌then◌else◌}
 use Rattle.std.proofs.Math.Bool.{true, false}
 use Rattle.std.proofs.Common.{arith}
 use borrow.Author.Tests.{ltb-true}
-use Rattle.common.specs.Choice.{if◌then◌else◌}
 use Rattle.common.specs.Tools.{if_elim, by_test, ltb_elim}
 use Rattle.line.specs.Bits.{odd}
 use Rattle.line.specs.Check.{top, complement}

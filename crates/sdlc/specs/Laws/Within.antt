@@ -1,8 +1,7 @@
 -- A tick for which a test of Within holds is the form of Within. Assumes nothing.
-use Rattle.std.specs.Prelude.{◌≡◌, refl, Bool, true, false, not, ℕ, zero, suc, ◌+◌, ltb}
+use Rattle.std.specs.Prelude.{◌≡◌, refl, Bool, true, false, not, ℕ, zero, suc, ◌+◌, ltb, if◌then◌else◌}
 use Rattle.std.proofs.Common.{ap, arith, ltb-true, lt-ltb, ne_eqb}
 use Rattle.std.proofs.Math.Dec.{eqb-suc-zero}
-use Rattle.common.specs.Choice.{if◌then◌else◌}
 use Rattle.common.specs.Tools.{if_elim, void, both_left, both_right, not_true}
 use Rattle.line.specs.Check.{sdlc, check_step}
 use Rattle.line.specs.declared.Insertion.{Insertion}

@@ -1,8 +1,7 @@
 -- Laws of the shapes: they exclude each other, a shaped byte sends just its Ds, and every byte of
 -- 256 is decided. Assumes nothing.
-use Rattle.std.specs.Prelude.{◌≡◌, refl, Bool, List, [], ◌∷◌, ◌++◌, map, ℕ, zero, suc, ◌+◌, ◌*◌, ◌/◌, ◌%◌, ◌^◌, ◌≤◌, ◌<◌, T, eqb, leb, replicate}
+use Rattle.std.specs.Prelude.{◌≡◌, refl, Bool, List, [], ◌∷◌, ◌++◌, map, ℕ, zero, suc, ◌+◌, ◌*◌, ◌/◌, ◌%◌, ◌^◌, ◌≤◌, ◌<◌, T, eqb, leb, replicate, if◌then◌else◌}
 use Rattle.std.proofs.Common.{sym, ap, ◌∙◌, arith, mul_assoc, pow-suc, eqb→eq}
-use Rattle.common.specs.Choice.{if◌then◌else◌}
 use Rattle.common.specs.Tools.{if_elim, below, below→}
 use Rattle.line.specs.Bits.{odd, low_bits}
 use Rattle.shapes.specs.Shapes.{Shape, shape, has, shapes, shape_bits}

@@ -1,6 +1,5 @@
 -- Wrong chips that do not tell the tales of Characters: asynchronous sending. Assumes nothing.
-use Rattle.std.specs.Prelude.{refl, true, not, ◌&&◌, ◌+◌, ◌-◌, ◌*◌, ◌/◌, ◌%◌, eqb}
-use Rattle.common.specs.Choice.{if◌then◌else◌}
+use Rattle.std.specs.Prelude.{refl, true, not, ◌&&◌, ◌+◌, ◌-◌, ◌*◌, ◌/◌, ◌%◌, eqb, if◌then◌else◌}
 use Rattle.asynchronous.specs.Sending.{no_character}
 use Rattle.settings.specs.Settings.{store4, store5, stop_field, auto_enables, sender_on, breaks}
 use Rattle.channel.specs.Events.{data_written}

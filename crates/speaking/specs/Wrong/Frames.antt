@@ -1,6 +1,5 @@
 -- Wrong chips that do not tell the tales of Frames: SDLC sending. Assumes nothing.
-use Rattle.std.specs.Prelude.{refl, true, false, not, ◌&&◌, ◌+◌, ◌-◌, ◌/◌, eqb}
-use Rattle.common.specs.Choice.{if◌then◌else◌}
+use Rattle.std.specs.Prelude.{refl, true, false, not, ◌&&◌, ◌+◌, ◌-◌, ◌/◌, eqb, if◌then◌else◌}
 use Rattle.common.specs.Mode.{in_sdlc}
 use Rattle.line.specs.Bits.{odd, one_if}
 use Rattle.line.specs.Check.{sdlc, check_over}

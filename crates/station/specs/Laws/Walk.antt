@@ -1,5 +1,5 @@
 -- A walk over a list, note by note, gives the whole report. Assumes nothing.
-use Rattle.std.specs.Prelude.{◌≡◌, refl, Bool, eqb}
+use Rattle.std.specs.Prelude.{◌≡◌, refl, Bool, eqb, if◌then◌else◌}
 use Rattle.std.proofs.Common.{sym, subst, ◌∙◌, add-zero, leb-true, ne_eqb}
 use Rattle.std.proofs.Math.Path.{ap}
 use Rattle.std.proofs.Math.Bool.{true, false}
@@ -9,7 +9,6 @@ use native.Mathlib.Omega.{arith}
 use Rattle.std.proofs.Math.ListN.{length}
 use Rattle.std.proofs.lemmas.List.Edits.{sets}
 use Rattle.std.proofs.Math.Seq.{length-sets}
-use Rattle.common.specs.Choice.{if◌then◌else◌}
 use Rattle.common.specs.declared.Refusal.{Refusal}
 use Rattle.flags.specs.declared.Between.{Between}
 use Rattle.flags.specs.Flags.{with_note, in_all, total_ticks}

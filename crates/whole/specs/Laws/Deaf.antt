@@ -2,7 +2,7 @@
 -- Seven ones leave the SDLC receiver deaf, a deaf one hands over nothing up to and including the
 -- next flag, and an end mark comes at a flag alone: so no end is told of a frame that was aborted.
 -- For any receiver, address search on or off. Assumes nothing.
-use Rattle.std.specs.Prelude.{◌≡◌, Bool, not, ◌&&◌, ◌||◌, eqb, ltb, replicate}
+use Rattle.std.specs.Prelude.{◌≡◌, Bool, not, ◌&&◌, ◌||◌, eqb, ltb, replicate, if◌then◌else◌}
 use Rattle.std.proofs.Math.Path.{refl, ap}
 use Rattle.std.proofs.Common.{sym, ap₂, ◌∙◌}
 use Rattle.std.proofs.Math.Bool.{true, false}
@@ -10,7 +10,6 @@ use mathlib.Core.List.{List, [], ◌∷◌, ◌++◌}
 use Prim.Native.Nat.{ℕ, zero, suc, ◌+◌, ◌≤◌, ◌<◌}
 use native.Mathlib.Omega.{arith}
 use borrow.Author.Tests.{ne_eqb, lt-ltb, ltb-true, ltb-false}
-use Rattle.common.specs.Choice.{if◌then◌else◌}
 use Rattle.common.specs.Tools.{ltb_elim, by_test, if_elim, void, both_left, both_right}
 use Rattle.common.specs.Tools.{refused_test}
 use Rattle.line.specs.Insertion.{zero_if, stuff}

@@ -1,12 +1,11 @@
 -- One bit turned over, which the check always finds: over any polynomial with a 1. Assumes nothing.
-use Rattle.std.specs.Prelude.{◌≡◌, ◌≢◌, Bool, not, List, ◌∷◌, ◌++◌, length, replicate}
+use Rattle.std.specs.Prelude.{◌≡◌, ◌≢◌, Bool, not, List, ◌∷◌, ◌++◌, length, replicate, if◌then◌else◌}
 use Rattle.std.proofs.Math.Path.{sym, ap, ap₂}
 use Rattle.std.proofs.Common.{◌∙◌}
 use Rattle.std.proofs.Math.Bool.{true, false}
 use Prim.Native.Nat.{ℕ, zero, suc, ◌*◌, ◌/◌, ◌%◌, ◌≤◌, ◌<◌}
 use native.Mathlib.Omega.{arith}
 use Rattle.std.specs.Int.Bits.{bit_xor, differ, xor_self, xor_zero_l, xor_zero_r}
-use Rattle.common.specs.Choice.{if◌then◌else◌}
 use Rattle.common.specs.Tools.{eqb_elim}
 use Rattle.line.specs.Check.{differs, check_step, check_over}
 use Rattle.line.specs.Laws.Xor.{xor_assoc, xor_low, not_differs}

@@ -1,6 +1,6 @@
 -- A frame's line, heard: its bytes, the check's two, the last with the end mark and a good check.
 -- Assumes nothing.
-use Rattle.std.specs.Prelude.{◌≡◌, Bool, not, eqb, ltb, take}
+use Rattle.std.specs.Prelude.{◌≡◌, Bool, not, eqb, ltb, take, if◌then◌else◌}
 use Rattle.std.proofs.Math.Path.{refl, ap, ap₂}
 use Rattle.std.proofs.Common.{sym, ◌∙◌, subst, take_at}
 use Rattle.std.proofs.Math.Bool.{true, false}
@@ -9,7 +9,6 @@ use Prim.Native.Nat.{ℕ, zero, suc, ◌+◌, ◌-◌, ◌*◌, ◌/◌, ◌%◌
 use native.Mathlib.Omega.{arith}
 use Rattle.std.proofs.Math.ListN.{length, length-append}
 use borrow.Author.Tests.{ne_eqb, lt-ltb, le-ltb}
-use Rattle.common.specs.Choice.{if◌then◌else◌}
 use Rattle.common.specs.Tools.{eqb_elim, ltb_elim, lt_or}
 use Rattle.line.specs.Bits.{one_if, low_bits, text_bits}
 use Rattle.line.specs.Check.{sdlc, ones, check_step, check_over, remainder}

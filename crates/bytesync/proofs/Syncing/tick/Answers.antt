@@ -1,7 +1,7 @@
 -- `bytesync::Syncing::tick` meets its contract: a unit that has a bit left goes on, another is followed by the next. Assumes nothing.
 use mathlib.Core.Path.{sym, ap, ◌∙◌}
 use mathlib.Core.Bool.{Bool}
-use Rattle.common.specs.Choice.{if◌then◌else◌}
+use Rattle.std.specs.Prelude.{if◌then◌else◌}
 use Rattle.bytesync.specs.Sending.{start_mark, following}
 use Rattle.bytesync.specs.Laws.Within.{ended, under_way_lem}
 use Rattle.bytesync.proofs.Syncing.tick.Goals as goal

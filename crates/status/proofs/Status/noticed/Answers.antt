@@ -1,7 +1,7 @@
 -- `status::Status::noticed` meets its contract: both tests of the definition are one. Assumes nothing.
 use mathlib.Core.Path.{◌≡◌, refl}
 use mathlib.Core.Bool.{Bool, true, false, not, ◌&&◌}
-use Rattle.common.specs.Choice.{if◌then◌else◌}
+use Rattle.std.specs.Prelude.{if◌then◌else◌}
 use Rattle.status.specs.declared.Status.{Status}
 use Rattle.status.specs.Status.{noticed}
 use Rattle.status.proofs.Status.noticed.Goals as goal
