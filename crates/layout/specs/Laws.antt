@@ -14,7 +14,8 @@ use Rattle.line.specs.Frame.{flag_bits, check_bytes, content_of, with_check, fra
 use Rattle.line.specs.Laws.Check.{check_join}
 use Rattle.line.specs.Laws.Bits.{low_bits_length, cells_length}
 use Rattle.line.specs.Laws.Insertion.{stuff_length}
-use Rattle.line.specs.Laws.Frame.{content_is, content_length, ticks_are}
+use Rattle.line.specs.Laws.Frame.{content_length, ticks_are}
+use Rattle.line.proofs.Content.{content_is}
 use Rattle.mirror.specs.Mirror.{mirror, mirrored_byte}
 use Rattle.mirror.specs.Laws.{mirror_ones, mirror_bytes, mirrored_byte_lt, mirror_mirrored_byte}
 use Rattle.pen.specs.Pen.{Sheet, sheet, pen_at, bits_put, byte_put, flag_put}

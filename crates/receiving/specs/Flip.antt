@@ -5,7 +5,8 @@ use Rattle.std.proofs.Common.{sym, ap, ◌∙◌, subst, arith, length-append, n
 use Rattle.line.specs.Check.{sdlc, ones, check_over, remainder}
 use Rattle.line.specs.Frame.{note_bits}
 use Rattle.line.specs.Bits.{Below}
-use Rattle.line.specs.Laws.Frame.{content_length, content_good}
+use Rattle.line.specs.Laws.Frame.{content_length}
+use Rattle.line.proofs.Content.{content_good}
 use Rattle.chip.specs.declared.Chip.{Chip}
 use Rattle.chip.specs.Event.{Event}
 use Rattle.stories.specs.Story.{Which}

@@ -10,7 +10,7 @@ use Rattle.line.specs.Insertion.{stuff, run_over}
 use Rattle.line.specs.Frame.{content_of, with_check}
 use Rattle.line.specs.Laws.Bits.{low_bits_length}
 use Rattle.line.specs.Laws.Insertion.{stuff_join, stuff_length}
-use Rattle.line.specs.Laws.Frame.{content_is}
+use Rattle.line.proofs.Content.{content_is}
 use Rattle.table.specs.Table.{check_table}
 use Rattle.lookup.specs.Laws.{with_lookup_is}
 use Rattle.stamp.specs.Stamp.{sent_as, stamp_table, four_table}

@@ -1,7 +1,6 @@
 -- `line::check_byte` meets its contract: what the bits left make of the present register is what all eight make of the first. Assumes nothing.
-use mathlib.Core.Path.{◌≡◌, refl}
+use mathlib.Core.Path.{refl}
 use native.Mathlib.Omega.{arith}
-use Rattle.line.specs.Bits.{low_bits}
 use Rattle.line.specs.Check.{check_over}
 use Rattle.line.specs.Laws.Bits.{low_step, low_none}
 use Rattle.line.proofs.check_byte.Goals as goal

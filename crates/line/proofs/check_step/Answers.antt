@@ -2,7 +2,6 @@
 use mathlib.Core.Path.{ap}
 use lib.Bits.{bit_xor}
 use Rattle.line.proofs.Laws.{step_one, step_zero}
-use borrow.Author.Rules.{rules}
 use Rattle.line.proofs.check_step.Goals as goal
 
 pub returns-then-x-eq1 : goal.returns-then-x-eq1

@@ -11,9 +11,9 @@ use Rattle.std.proofs.Math.Arith.{mod-mul}
 use Rattle.std.specs.Int.Bits.{bit_xor, xor_self, xor_zero_l, xor_zero_r}
 use Rattle.std.proofs.lemmas.Nat.{xor_comm, xor_lt}
 use Rattle.common.specs.Tools.{if_elim}
-use Rattle.line.specs.Bits.{one_if}
-use Rattle.line.specs.Check.{sdlc, ones, top, shifted, differs, check_step, check_over, top_bits}
-use Rattle.line.specs.Check.{complement, check_bits, remainder}
+use Rattle.line.specs.Bits.{one_if, low_bits}
+use Rattle.line.specs.Check.{ones, top, shifted, differs, check_step, check_over, top_bits}
+use Rattle.line.specs.Check.{complement, check_bits}
 use Rattle.line.specs.Laws.Xor.{xor_assoc, xor_left_comm, top_xor, shifted_xor, differs_self}
 use Rattle.line.specs.Laws.Xor.{differs_four}
 
@@ -145,17 +145,6 @@ module _ (p : ℕ) where
   check_lt hp r [] h = h
   check_lt hp r (b ∷ bs) h = check_lt hp (check_step p r b) bs (step_lt hp r b)
 
--- a message followed by its complemented check leaves 1D0F, from any register
-pub check_good : (r : ℕ) (bs : List Bool) → r < 65536
-    → check_over sdlc r (bs ++ check_bits (check_over sdlc r bs)) ≡ remainder
-check_good r bs h =
-    check_join sdlc r bs (check_bits (check_over sdlc r bs))
-    ∙ check_own sdlc (check_over sdlc r bs) (check_lt sdlc (omega arith) r bs h)
-    ∙ ones-fed
-  where
-    ones-fed : check_over sdlc ones (replicate 16 false) ≡ remainder
-    ones-fed = unfold check_over check_step in refl
-
 pub check_bits_length : (r : ℕ) → length (check_bits r) ≡ 16
-unfolding check_bits top_bits
+unfolding check_bits top_bits low_bits
 check_bits_length r = refl

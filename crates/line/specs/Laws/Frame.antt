@@ -4,13 +4,13 @@ use Rattle.std.specs.Prelude.{◌≡◌, List, ◌++◌, Bool, ℕ, ◌+◌, ◌
 use Rattle.std.proofs.Common.{sym, ap, ◌∙◌, append-nil, arith, length-append, length-take, length-drop, take-append-drop, take_at}
 use Rattle.std.proofs.lemmas.List.{append_cancel_left, append_cancel_right}
 use Rattle.line.specs.Bits.{low_bits, text_bits, from_low, Below}
-use Rattle.line.specs.Check.{sdlc, ones, check_over, check_bits, remainder}
+use Rattle.line.specs.Check.{check_bits}
 use Rattle.line.specs.Insertion.{stuff, unstuff}
-use Rattle.line.specs.Frame.{flag_bits, note_bits, check_of, content_of, check_bytes, with_check}
+use Rattle.line.specs.Frame.{flag_bits, note_bits, check_of, content_of, check_bytes}
 use Rattle.line.specs.Frame.{frame, zeros_of, ticks_of}
-use Rattle.line.specs.Laws.Bits.{low_bits_from_low, text_bits_join, text_bits_length}
+use Rattle.line.specs.Laws.Bits.{low_bits_from_low, text_bits_length}
 use Rattle.line.specs.Laws.Bits.{text_bits_same}
-use Rattle.line.specs.Laws.Check.{check_bits_length, check_good}
+use Rattle.line.specs.Laws.Check.{check_bits_length}
 use Rattle.line.specs.Laws.Insertion.{stuff_length, zeros_bound, unstuff_stuff}
 
 pub content_length : (note : List ℕ) → length (content_of note) ≡ 8 * (length note + 2)
@@ -45,16 +45,6 @@ check_bytes_bits r =
     let last : length (drop 8 bits) ≡ 8 = rw (length-drop 8 bits, check_bits_length r) in
     rw (byte_of (take 8 bits) first, byte_of (drop 8 bits) last, append-nil (drop 8 bits))
     (take-append-drop 8 bits)
-
-pub content_is : (note : List ℕ) → content_of note ≡ text_bits 8 (with_check note)
-content_is note =
-    let r = check_of note in
-    ap (λ (l : List Bool). note_bits note ++ l) (sym (check_bytes_bits r))
-    ∙ sym (text_bits_join 8 note (check_bytes r))
-
--- a receiver that starts from ones ends with the remainder of a good frame
-pub content_good : (note : List ℕ) → check_over sdlc ones (content_of note) ≡ remainder
-content_good note = check_good ones (note_bits note) (omega arith)
 
 -- two notes with the same frame are the same note
 pub frame_same : {xs ys : List ℕ} → Below 256 xs → Below 256 ys → frame xs ≡ frame ys → xs ≡ ys

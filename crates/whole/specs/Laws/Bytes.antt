@@ -9,7 +9,8 @@ use Rattle.line.specs.Frame.{note_bits, check_of, content_of}
 use Rattle.line.specs.Laws.Bits.{from_low_lt, text_bits_join}
 use Rattle.line.specs.Bits.{from_low, Below, below_none as none, below_more as more}
 use Rattle.line.specs.Laws.Check.{check_bits_length}
-use Rattle.line.specs.Laws.Frame.{content_good, byte_of, check_bytes_bits}
+use Rattle.line.specs.Laws.Frame.{byte_of, check_bytes_bits}
+use Rattle.line.proofs.Content.{content_good}
 use Rattle.sdlc.specs.Hearing.{shift_in}
 use Rattle.line.specs.Frame.{check_bytes, with_check}
 
