@@ -1,13 +1,11 @@
 -- `layout::put_text` meets its contract: the bytes that remain, put down from the pen on, make what all of them made from the first
 -- place, and so with the register. Assumes nothing.
-use native.Mathlib.Omega.{arith}
-use mathlib.Core.Path.{◌≡◌, refl, sym, ap, ◌∙◌}
+use mathlib.Core.Path.{◌≡◌}
 use Prim.Native.Nat.{◌-◌}
 use lib.ListN.{length, drop}
 use Rattle.line.specs.Check.{ones}
-use Rattle.pen.specs.Pen.{Sheet, sheet, pen_at}
+use Rattle.pen.specs.Pen.{sheet, pen_at}
 use Rattle.layout.specs.Layout.{bytes_put, mirrored_over}
-use Rattle.layout.specs.Laws.{bytes_step, bytes_none, over_step, over_none}
 use Rattle.layout.proofs.put_text.Given as goal
 
 abbrev pub invariant-loop-i : goal.invariant-loop-i
