@@ -1,14 +1,8 @@
--- `pen::put_byte` meets its contract: where there is room, what is left, put down from the pen on, makes what the whole byte made from the
-use native.Mathlib.Omega.{arith}
-use mathlib.Core.Path.{◌≡◌, refl, sym, ap, ◌∙◌}
-use mathlib.Core.List.{[], ◌∷◌}
-use Prim.Native.Nat.{◌-◌, ◌/◌}
-use borrow.Author.Tests.{ltb-true, ltb-false}
-use lib.ListN.{length}
-use Rattle.line.specs.Bits.{odd, low_bits}
-use Rattle.line.specs.Laws.Bits.{low_step, low_none}
-use Rattle.pen.specs.Pen.{Sheet, sheet, bits_put, byte_cells}
-use Rattle.pen.specs.Laws.{put_none, put_join, byte_fits, byte_left_out, byte_short, same_size, same_room}
+-- `pen::put_byte` meets its contract: where there is room, what is left, put down from the pen on, makes what the whole byte made
+-- from the first place. Assumes nothing.
+use mathlib.Core.Path.{◌≡◌}
+use Rattle.line.specs.Bits.{low_bits}
+use Rattle.pen.specs.Pen.{sheet, bits_put}
 use Rattle.pen.proofs.put_byte.Given as goal
 
 abbrev pub invariant-loop-left : goal.invariant-loop-left

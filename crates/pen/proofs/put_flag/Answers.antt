@@ -1,12 +1,12 @@
--- `pen::put_flag` meets its contract: where there is room, what is left of the flag, stored from the present place on, makes what all of it
+-- `pen::put_flag` meets its contract: where there is room, what is left of the flag, stored from the present place on, makes what all
+-- of it made from the first. Assumes nothing.
 use native.Mathlib.Omega.{arith}
-use mathlib.Core.Path.{◌≡◌, refl, sym, ap, ◌∙◌}
+use mathlib.Core.Path.{sym, ap, ◌∙◌}
 use mathlib.Core.Bool.{Bool}
 use mathlib.Core.List.{List}
-use Prim.Native.Nat.{◌+◌}
-use lib.ListN.{length, length-set}
+use lib.ListN.{length-set}
 use lib.Seq.{sets}
-use Rattle.line.specs.Bits.{low_bits, cells}
+use Rattle.line.specs.Bits.{cells}
 use Rattle.pen.specs.Laws.{flag_fits, flag_left_out}
 use Rattle.pen.proofs.Laws.{store_step, store_none, flag_is}
 use Rattle.pen.proofs.put_flag.Goals as goal
@@ -16,26 +16,15 @@ returns-then-room_from-lt-FLAG_CELLS c =
     let a = c.args in
     sym (flag_left_out a.out.now a.at (omega (arith, c.room_from.ensures, c.if-room_from-lt-FLAG_CELLS.true)))
 
-pub loop-left-init : goal.loop-left-init
-loop-left-init c = (refl, (refl, refl))
-
 pub bounds-out-i : goal.bounds-out-i
 bounds-out-i c =
-    let b = c in
     let l = c.loop-left in
-    omega (arith, l.invariant.1.0, l.invariant.1.1, c.loop-left-test.true, b.before.room-from.ensures, b.if1.false)
+    omega (arith, l.invariant.1.0, l.invariant.1.1, c.loop-left-test.true, c.room_from.ensures, c.if-room_from-lt-FLAG_CELLS.false)
 
 pub overflow_add-i : goal.overflow_add-i
 overflow_add-i c =
-    let b = c in
     let l = c.loop-left in
-    omega (arith, l.invariant.1.0, l.invariant.1.1, c.loop-left-test.true, b.before.room-from.ensures, b.if1.false)
-
-pub overflow_sub-left : goal.overflow_sub-left
-overflow_sub-left c = omega arith
-
-pub loop-left-smaller : goal.loop-left-smaller
-loop-left-smaller c = omega arith
+    omega (arith, l.invariant.1.0, l.invariant.1.1, c.loop-left-test.true, c.room_from.ensures, c.if-room_from-lt-FLAG_CELLS.false)
 
 pub loop-left-preserved : goal.loop-left-preserved
 loop-left-preserved c =
@@ -46,8 +35,7 @@ loop-left-preserved c =
 
 pub returns : goal.returns
 returns c =
-    let b = c in
-    let a = b.before.before.before.args in
+    let a = c.args in
     let l = c.loop-left in
     store_none l.out l.i l.left l.rest c.loop-left-test.false ∙ l.invariant.0 ∙ ap (λ (bs : List Bool). sets a.out.now a.at (cells bs)) flag_is
-    ∙ sym (flag_fits a.out.now a.at (omega (arith, b.before.room-from.ensures, b.if1.false)))
+    ∙ sym (flag_fits a.out.now a.at (omega (arith, c.room_from.ensures, c.if-room_from-lt-FLAG_CELLS.false)))

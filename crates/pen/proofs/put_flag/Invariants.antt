@@ -1,14 +1,10 @@
--- `pen::put_flag` meets its contract: where there is room, what is left of the flag, stored from the present place on, makes what all of it
-use native.Mathlib.Omega.{arith}
-use mathlib.Core.Path.{◌≡◌, refl, sym, ap, ◌∙◌}
-use mathlib.Core.Bool.{Bool}
-use mathlib.Core.List.{List}
+-- `pen::put_flag` meets its contract: where there is room, what is left of the flag, stored from the present place on, makes what all
+-- of it made from the first. Assumes nothing.
+use mathlib.Core.Path.{◌≡◌}
 use Prim.Native.Nat.{◌+◌}
-use lib.ListN.{length, length-set}
+use lib.ListN.{length}
 use lib.Seq.{sets}
 use Rattle.line.specs.Bits.{low_bits, cells}
-use Rattle.pen.specs.Laws.{flag_fits, flag_left_out}
-use Rattle.pen.proofs.Laws.{store_step, store_none, flag_is}
 use Rattle.pen.proofs.put_flag.Given as goal
 
 abbrev pub invariant-loop-left : goal.invariant-loop-left
