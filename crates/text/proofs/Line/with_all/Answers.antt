@@ -1,9 +1,6 @@
 -- `text::Line::with_all` meets its contract: the bytes that are left, put from here, always end as all of them do. Assumes nothing.
-use Prim.Native.Nat.{◌-◌}
-use mathlib.Core.Path.{◌≡◌, refl}
+use mathlib.Core.Path.{refl}
 use native.Mathlib.Omega.{arith}
-use lib.ListN.{length, drop}
-use Rattle.text.specs.Text.{with_all}
 use Rattle.text.proofs.Laws.{with_all_step, with_all_none}
 use Rattle.text.proofs.Line.with_all.Goals as goal
 
