@@ -1,6 +1,5 @@
 -- `advance::product` meets its contract: the sum and the product of what is left is the whole product. Assumes nothing.
-use mathlib.Core.Path.{◌≡◌, sym, ap, ◌∙◌}
-use Prim.Native.Nat.{◌<◌}
+use mathlib.Core.Path.{sym, ap, ◌∙◌}
 use native.Mathlib.Omega.{arith}
 use lib.Bits.{bit_xor, xor_zero_l, xor_zero_r}
 use Rattle.advance.specs.Advance.{product}

@@ -1,10 +1,8 @@
 -- `advance::product` meets its contract: the sum and the product of what is left is the whole product. Assumes nothing.
-use mathlib.Core.Path.{◌≡◌, sym, ap, ◌∙◌}
+use mathlib.Core.Path.{◌≡◌}
 use Prim.Native.Nat.{◌<◌}
-use native.Mathlib.Omega.{arith}
-use lib.Bits.{bit_xor, xor_zero_l, xor_zero_r}
+use lib.Bits.{bit_xor}
 use Rattle.advance.specs.Advance.{product}
-use Rattle.advance.specs.Laws.Advance.{product_none, product_step}
 use Rattle.advance.proofs.product.Given as goal
 
 abbrev pub invariant-loop-rest : goal.invariant-loop-rest

@@ -2,10 +2,7 @@
 use mathlib.Core.Path.{sym, ap, ap₂, ◌∙◌}
 use Prim.Native.Nat.{ℕ, ◌+◌, ◌-◌, ◌*◌, ◌≤◌}
 use native.Mathlib.Omega.{arith}
-use borrow.Author.Rules.{rules}
-use borrow.Author.Tests.{not-false}
 use lib.ListN.{length}
-use Rattle.common.specs.Tools.{not_true}
 use Rattle.line.specs.Line.{note_fits}
 use Rattle.head.specs.declared.Head.TheVariants.{Note}
 use Rattle.head.specs.NoteHead.{length_bytes, length_at}
@@ -30,7 +27,7 @@ returns-then-not-note_fits-clause-value c =
     let enough = c.if-left-lt-LENGTH_BYTES.false in
     let stated = ap₂ (λ (x y : ℕ). x * 256 + y) c.wide.ensures.value c.wide-2.ensures.value in
     let told = sym (c.note_fits.ensures ∙ ap note_fits stated) in
-    sym (head_unfit list a.i inside enough (told ∙ not_true c.note_fits.result c.if-not-note_fits.true))
+    sym (head_unfit list a.i inside enough (told ∙ c.if-not-note_fits.true))
 
 pub returns-then-left-k-clause-value : goal.returns-then-left-k-clause-value
 returns-then-left-k-clause-value c =

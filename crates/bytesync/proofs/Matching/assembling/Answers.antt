@@ -1,7 +1,6 @@
 -- `bytesync::Matching::assembling` meets its contract: each return by the facts on its way. Assumes nothing.
 use Rattle.bytesync.proofs.Branch.{tests}
 use Rattle.bytesync.specs.Hearing.{assembling}
-use borrow.Author.Rules.{rules}
 use Rattle.bytesync.proofs.Matching.assembling.Goals as goal
 
 pub returns-then-r-lt7 : goal.returns-then-r-lt7

@@ -1,7 +1,6 @@
 -- `bytesync::Syncs::seen` meets its contract: each return by the facts on its way. Assumes nothing.
 use Rattle.bytesync.proofs.Branch.{tests}
 use Rattle.bytesync.specs.Hearing.{sync_seen}
-use borrow.Author.Rules.{rules}
 use Rattle.bytesync.proofs.Syncs.seen.Goals as goal
 
 pub returns-then-self : goal.returns-then-self

@@ -1,7 +1,6 @@
 -- `text::Line::with` meets its contract: each return by the facts on its way. Assumes nothing.
 use Rattle.text.proofs.Branch.{tests}
 use Rattle.text.specs.Text.{with}
-use borrow.Author.Rules.{rules}
 use Rattle.text.proofs.Line.with.Goals as goal
 
 pub returns-then-at-lt-LONGEST : goal.returns-then-at-lt-LONGEST
