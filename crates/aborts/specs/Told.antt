@@ -202,14 +202,14 @@ attends_front u {r} (x ∷ qs) (hears {b = b} p m a) h =
     let d = (happens r x).chip in
     let y = heard_side b (side_of u r) in
     let f : side_of u d ≡ y = subst (Follows u r d) p (follows u r x h) in
-    let i = attends_front u qs a (subst Hearing (sym (ap (λ (z : Side). z.settings) f)) h) in
+    let i = attends_front u {r = (happens r x).chip} qs a (subst Hearing (sym (ap (λ (z : Side). z.settings) f)) h) in
     (behind_more u r x qs y (Hears b) f p refl refl i.0, i.1)
 attends_front u {r} (x ∷ qs) (reads p a) h =
     let d = (happens r x).chip in
     let y = read_side (side_of u r) in
     let f : side_of u d ≡ y = subst (Follows u r d) p (follows u r x h) in
-    let i = attends_front u qs a (subst Hearing (sym (ap (λ (z : Side). z.settings) f)) h) in
+    let i = attends_front u {r = (happens r x).chip} qs a (subst Hearing (sym (ap (λ (z : Side). z.settings) f)) h) in
     (behind_more u r x qs y Reads f p refl refl i.0, i.1)
 attends_front u {r} (x ∷ qs) (still p k a) h =
-    let i = attends_front u qs a (subst Hearing (sym (ap (λ (z : Side). z.settings) k)) h) in
+    let i = attends_front u {r = (happens r x).chip} qs a (subst Hearing (sym (ap (λ (z : Side). z.settings) k)) h) in
     (behind_more u r x qs (side_of u r) Else k p refl refl i.0, i.1)

@@ -4,8 +4,12 @@
 #![tactic(auto)]
 
 ghost use Rattle.std.specs.Prelude.{◌≡◌, length};
+ghost use Rattle.std.specs.Io.{ReadsAtMost};
 ghost use Rattle.items.specs.Lines.{ended};
 ghost use Rattle.playing.specs.Playing.{played};
+
+use std::io;
+use std::io::Read;
 
 // Room for all items.
 const INPUT: usize = 262144;
@@ -25,6 +29,22 @@ fn space() -> [u8; SPACE]
     [0; SPACE]
 }
 
+// Reads until the buffer is full or the input ends; gives how many bytes it put at the buffer's start.
+fn read_full(rt: &impl Input, buffer: &mut [u8]) -> io::Result<usize>
+    ensures { ReadsAtMost result buffer.new }
+{
+    let mut reader = rt.reader();
+    let mut done = 0;
+    while done < buffer.len() {
+        let n = reader.read(&mut buffer[done..])?;
+        if n == 0 {
+            break;
+        }
+        done = done + n;
+    }
+    Ok(done)
+}
+
 // The items are played, and the last line told; gives where the lines end.
 fn told(input: &[u8], desk: &mut [u8], out: &mut [u8]) -> usize
     ensures value { result ≡ (ended (played input.now desk.old out.old).sheet (played input.now desk.old out.old).out).end }
@@ -35,15 +55,20 @@ fn told(input: &[u8], desk: &mut [u8], out: &mut [u8]) -> usize
 }
 
 // The items are read and played, and all lines told at once.
-fn run(input: &mut [u8], desk: &mut [u8], out: &mut [u8]) {
-    let n = io::read_full(0, input);
+fn run(
+    rt: &(impl Input + Print),
+    input: &mut [u8],
+    desk: &mut [u8],
+    out: &mut [u8],
+) -> io::Result<()> {
+    let n = read_full(rt, input)?;
     let end = told(items::all_read(input, n), desk, out);
-    io::write_all(1, items::part(out, 0, end));
+    rt.write_all(items::part(out, 0, end))
 }
 
-fn main() {
+fn main(rt: HostRuntime) -> io::Result<()> {
     let mut input = input();
     let mut desk = space();
     let mut out = space();
-    run(&mut input, &mut desk, &mut out);
+    run(&rt, &mut input, &mut desk, &mut out)
 }

@@ -2,23 +2,52 @@
 // are made once and lent for all notes. A bad list prints `refused N` alone.
 #![tactic(auto)]
 
+ghost use Rattle.std.specs.Prelude.{◌≡◌, length};
+ghost use Rattle.std.specs.Io.{ReadsAtMost};
+
 use common::Refusal;
 use head::{Head, LENGTH_BYTES, head_at, note_at};
 use lent::write_line_by;
 use line::LONGEST_NOTE;
 use notes::{FIRST_NOTE, Scanned, scan};
+use std::io;
+use std::io::Read;
 use zeros::Counted;
 
 const ZERO: u8 = b'0';
 
-fn print(text: &[u8]) {
-    io::write_all(1, text);
+// Room for a list, and a byte more than a list may have; and for a line.
+const ROOM: usize = 65536;
+
+fn room() -> [u8; ROOM]
+    ensures { 65536 ≡ length result }
+{
+    [0; ROOM]
 }
 
-fn print_refusal(k: Refusal) {
-    print(b"refused ");
-    io::print_decimal(1, k.number() as u64);
-    print(b"\n");
+// Reads until the buffer is full or the input ends; gives how many bytes it put at the buffer's start.
+fn read_full(rt: &impl Input, buffer: &mut [u8]) -> io::Result<usize>
+    ensures { ReadsAtMost result buffer.new }
+{
+    let mut reader = rt.reader();
+    let mut done = 0;
+    while done < buffer.len() {
+        let n = reader.read(&mut buffer[done..])?;
+        if n == 0 {
+            break;
+        }
+        done = done + n;
+    }
+    Ok(done)
+}
+
+fn print(rt: &impl Print, text: &[u8]) -> io::Result<()> {
+    rt.write_all(text)
+}
+
+fn print_refusal(rt: &impl Print, k: Refusal) -> io::Result<()> {
+    let number = k.number();
+    println!(rt; "refused {number}")
 }
 
 // The ticks of a note of so many bytes with so many zeros inserted, both flags among them.
@@ -43,29 +72,28 @@ fn as_digits(line: &mut [u8], cells: usize) -> usize {
 }
 
 fn print_line(
+    rt: &impl Print,
     checks: &[u16; 256],
     stamps: &[u16; 1280],
     fours: &[u32; 16],
     note: &[u8],
     line: &mut [u8],
-) {
+) -> io::Result<()> {
     let counted = write_line_by(checks, stamps, fours, note, line, 0);
     match counted {
-        Counted::Refused(k) => {
-            print_refusal(k);
-        }
+        Counted::Refused(k) => print_refusal(rt, k),
         Counted::Zeros(z) => {
             let n = as_digits(line, ticks_of(note.len(), z));
             if n <= line.len() {
-                print(&line[0..n]);
+                print(rt, &line[0..n])?;
             }
-            print(b"\n");
+            print(rt, b"\n")
         }
     }
 }
 
 // The lines of all notes.
-fn print_lines(list: &[u8], line: &mut [u8]) {
+fn print_lines(rt: &impl Print, list: &[u8], line: &mut [u8]) -> io::Result<()> {
     let checks = table::checks();
     let stamps = stamp::stamps();
     let fours = stamp::fours();
@@ -73,24 +101,21 @@ fn print_lines(list: &[u8], line: &mut [u8]) {
     while i < list.len() {
         let head = head_at(list, i);
         let Head::Note(k) = head else {
-            return;
+            return Ok(());
         };
-        print_line(&checks, &stamps, &fours, note_at(list, i), line);
+        print_line(rt, &checks, &stamps, &fours, note_at(list, i), line)?;
         i = i + LENGTH_BYTES + k;
     }
+    Ok(())
 }
 
-fn main() {
-    let mut buffer = io::large_buffer();
-    let mut line = io::large_buffer();
-    let n = io::read_full(0, &mut buffer);
+fn main(rt: HostRuntime) -> io::Result<()> {
+    let mut buffer = room();
+    let mut line = room();
+    let n = read_full(&rt, &mut buffer)?;
     let list = &buffer[..n];
     match scan(list) {
-        Scanned::Refused(k) => {
-            print_refusal(k);
-        }
-        Scanned::Notes(_) => {
-            print_lines(list, &mut line);
-        }
+        Scanned::Refused(k) => print_refusal(&rt, k),
+        Scanned::Notes(_) => print_lines(&rt, list, &mut line),
     }
 }

@@ -4,23 +4,62 @@
 // together are no note, its refusal stands for the first two. Last `end` and the number of bodies. A bad list prints `refused N` alone.
 #![tactic(auto)]
 
+ghost use Rattle.std.specs.Prelude.{◌≡◌, length};
+ghost use Rattle.std.specs.Io.{ReadsAtMost};
+
 use common::Refusal;
 use head::{Head, LENGTH_BYTES, head_at, note_at};
 use heading::{Heading, NoteCheck};
 use joining::{CheckRule, check_of};
 use notes::{FIRST_NOTE, Scanned, scan};
+use std::io;
+use std::io::Read;
 
-fn print(text: &[u8]) {
-    io::write_all(1, text);
+// Room for a list, and a byte more than a list may have.
+const LIST: usize = 65536;
+
+// Room for any two notes.
+const PAIR: usize = 4096;
+
+fn list_room() -> [u8; LIST]
+    ensures { 65536 ≡ length result }
+{
+    [0; LIST]
+}
+
+fn pair_room() -> [u8; PAIR]
+    ensures { 4096 ≡ length result }
+{
+    [0; PAIR]
+}
+
+// Reads until the buffer is full or the input ends; gives how many bytes it put at the buffer's start.
+fn read_full(rt: &impl Input, buffer: &mut [u8]) -> io::Result<usize>
+    ensures { ReadsAtMost result buffer.new }
+{
+    let mut reader = rt.reader();
+    let mut done = 0;
+    while done < buffer.len() {
+        let n = reader.read(&mut buffer[done..])?;
+        if n == 0 {
+            break;
+        }
+        done = done + n;
+    }
+    Ok(done)
+}
+
+fn print(rt: &impl Print, text: &[u8]) -> io::Result<()> {
+    rt.write_all(text)
 }
 
 fn wide(x: u16) -> u64 {
     x as u64
 }
 
-fn print_refusal(k: Refusal) {
-    print(b"refused ");
-    io::print_decimal(1, k.number() as u64);
+fn print_refusal(rt: &impl Print, k: Refusal) -> io::Result<()> {
+    let number = k.number();
+    print!(rt; "refused {number}")
 }
 
 // Sixteen bits in the other order.
@@ -36,18 +75,15 @@ fn turned(x: u16) -> u16 {
     turned
 }
 
-fn print_check(c: u16) {
-    io::print_hex(1, wide(turned(c)), 4);
+fn print_check(rt: &impl Print, c: u16) -> io::Result<()> {
+    let sent = wide(turned(c));
+    print!(rt; "{sent:04x}")
 }
 
-fn print_answer(a: NoteCheck) {
+fn print_answer(rt: &impl Print, a: NoteCheck) -> io::Result<()> {
     match a {
-        NoteCheck::Check(c) => {
-            print_check(c);
-        }
-        NoteCheck::Refused(k) => {
-            print_refusal(k);
-        }
+        NoteCheck::Check(c) => print_check(rt, c),
+        NoteCheck::Refused(k) => print_refusal(rt, k),
     }
 }
 
@@ -67,75 +103,77 @@ fn put(out: &mut [u8], at: usize, text: &[u8]) -> usize {
 }
 
 // The check of both texts in a row, in a buffer that has room for any two notes.
-fn print_whole(front: &[u8], back: &[u8]) {
-    let mut whole = io::buffer();
+fn print_whole(rt: &impl Print, front: &[u8], back: &[u8]) -> io::Result<()> {
+    let mut whole = pair_room();
     let p = put(&mut whole, 0, front);
     let n = put(&mut whole, p, back);
     if n <= whole.len() {
-        print_check(check_of(CheckRule::sdlc(), &whole[0..n]));
+        return print_check(rt, check_of(CheckRule::sdlc(), &whole[0..n]));
     }
+    Ok(())
 }
 
-fn print_row(number: u64, front: &[u8], h: Heading, body: &[u8]) {
-    io::print_decimal(1, number);
-    print(b" ");
-    io::print_decimal(
-        1,
-        std::num::wrapping_add_u64(front.len() as u64, body.len() as u64),
-    );
-    print(b" ");
-    print_answer(h.with_body(body));
-    print(b" ");
-    print_answer(h.with_checked_body(check_of(CheckRule::sdlc(), body), body.len()));
-    print(b" ");
-    print_whole(front, body);
-    print(b"\n");
+fn print_row(
+    rt: &impl Print,
+    number: u64,
+    front: &[u8],
+    h: Heading,
+    body: &[u8],
+) -> io::Result<()> {
+    let bytes = std::num::wrapping_add_u64(front.len() as u64, body.len() as u64);
+    print!(rt; "{number} {bytes} ")?;
+    print_answer(rt, h.with_body(body))?;
+    print(rt, b" ")?;
+    print_answer(
+        rt,
+        h.with_checked_body(check_of(CheckRule::sdlc(), body), body.len()),
+    )?;
+    print(rt, b" ")?;
+    print_whole(rt, front, body)?;
+    print(rt, b"\n")
 }
 
 // The rows of the bodies that stand from place i on; gives their number.
-fn print_rows(list: &[u8], front: &[u8], from: usize) -> u64 {
+fn print_rows(rt: &impl Print, list: &[u8], front: &[u8], from: usize) -> io::Result<u64> {
     let h = Heading::of(front);
     let mut i = from;
     let mut number: u64 = 0;
     while i < list.len() {
         let head = head_at(list, i);
         let Head::Note(k) = head else {
-            return number;
+            return Ok(number);
         };
         number = number + 1;
-        print_row(number, front, h, note_at(list, i));
+        print_row(rt, number, front, h, note_at(list, i))?;
         i = i + LENGTH_BYTES + k;
     }
-    number
+    Ok(number)
 }
 
 // All rows, and their number.
-fn print_list(list: &[u8]) {
+fn print_list(rt: &impl Print, list: &[u8]) -> io::Result<()> {
     let mut number = 0;
     let first = head_at(list, FIRST_NOTE);
     if let Head::Note(k) = first {
         number = print_rows(
+            rt,
             list,
             note_at(list, FIRST_NOTE),
             FIRST_NOTE + LENGTH_BYTES + k,
-        );
+        )?;
     }
-    print(b"end ");
-    io::print_decimal(1, number);
-    print(b"\n");
+    println!(rt; "end {number}")
 }
 
-fn main() {
-    let mut buffer = io::large_buffer();
-    let n = io::read_full(0, &mut buffer);
+fn main(rt: HostRuntime) -> io::Result<()> {
+    let mut buffer = list_room();
+    let n = read_full(&rt, &mut buffer)?;
     let list = &buffer[..n];
     match scan(list) {
         Scanned::Refused(k) => {
-            print_refusal(k);
-            print(b"\n");
+            print_refusal(&rt, k)?;
+            print(&rt, b"\n")
         }
-        Scanned::Notes(_) => {
-            print_list(list);
-        }
+        Scanned::Notes(_) => print_list(&rt, list),
     }
 }

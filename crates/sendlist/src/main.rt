@@ -3,11 +3,14 @@
 // with the word --shared one flag that is both. All that matters is in the crate station.
 #![tactic(auto)]
 
-ghost use Rattle.std.specs.Prelude.{◌≡◌, ◌+◌, ◌≤◌, length};
+ghost use Rattle.std.specs.Prelude.{◌≡◌, ◌+◌, ◌≤◌, length, IfOk};
+ghost use Rattle.std.specs.Io.{ReadsAtMost};
 
 use chip::Chip;
 use flags::Between;
 use station::{Listed, ROW};
+use std::env::{Env, FillError};
+use std::io::Read;
 
 // Room for the rows of every list: a note takes three bytes of it or more.
 const ROWS: usize = 4 * 21845;
@@ -16,6 +19,40 @@ const ROWS: usize = 4 * 21845;
 const DIGITS: usize = 20;
 
 const NUMBER: usize = DIGITS + 1;
+
+// Room for a list, and a byte more than a list may have.
+const LIST: usize = 65536;
+
+// Room for text that waits to be written.
+const TEXT: usize = 4096;
+
+fn list_room() -> [u8; LIST]
+    ensures { 65536 ≡ length result }
+{
+    [0; LIST]
+}
+
+fn text_room() -> [u8; TEXT]
+    ensures { 4096 ≡ length result }
+{
+    [0; TEXT]
+}
+
+// Reads until the buffer is full or the input ends; gives how many bytes it put at the buffer's start.
+fn read_full(rt: &impl Input, buffer: &mut [u8]) -> std::io::Result<usize>
+    ensures { ReadsAtMost result buffer.new }
+{
+    let mut reader = rt.reader();
+    let mut done = 0;
+    while done < buffer.len() {
+        let n = reader.read(&mut buffer[done..])?;
+        if n == 0 {
+            break;
+        }
+        done = done + n;
+    }
+    Ok(done)
+}
 
 fn room() -> [usize; ROWS]
     ensures { 87380 ≡ length result }
@@ -36,16 +73,16 @@ fn wide(x: u8) -> usize {
 }
 
 // What waits is written where another number has no room; gives the next place.
-fn room_made(out: &[u8], at: usize) -> usize
+fn room_made(rt: &impl Print, out: &[u8], at: usize) -> std::io::Result<usize>
     requires at_in_bounds { at ≤ length out.now }
     requires in_bounds { 21 ≤ length out.now }
-    ensures { result + 21 ≤ length out.now }
+    ensures { IfOk result (λ next. next + 21 ≤ length out.now) }
 {
     if out.len() - at < NUMBER {
-        io::write_all(1, &out[0..at]);
-        return 0;
+        rt.write_all(&out[0..at])?;
+        return Ok(0);
     }
-    at
+    Ok(at)
 }
 
 // A number, and the byte behind it; gives the next place.
@@ -68,48 +105,47 @@ fn put_number(out: &mut [u8], at: usize, v: usize, end: u8) -> usize
 }
 
 // The rows of so many notes; gives the next place.
-fn put_rows(out: &mut [u8], rows: &[usize], notes: usize) -> usize
+fn put_rows(rt: &impl Print, out: &mut [u8], rows: &[usize], notes: usize) -> std::io::Result<usize>
     requires { 21 ≤ length out.old }
-    ensures { result ≤ length out.new }
+    ensures { IfOk result (λ next. next ≤ length out.new) }
 {
     let mut at = 0;
     let mut j = 0;
     while j < rows.len() {
         if notes <= j / ROW {
-            return at;
+            return Ok(at);
         }
-        at = room_made(out, at);
+        at = room_made(rt, out, at)?;
         at = put_number(out, at, rows[j], behind(j));
         j = j + 1;
     }
-    at
+    Ok(at)
 }
 
-fn tell_rows(rows: &[usize], notes: usize) {
-    let mut out = io::buffer();
-    let n = put_rows(&mut out, rows, notes);
-    io::write_all(1, &out[0..n]);
+fn tell_rows(rt: &impl Print, rows: &[usize], notes: usize) -> std::io::Result<()> {
+    let mut out = text_room();
+    let n = put_rows(rt, &mut out, rows, notes)?;
+    rt.write_all(&out[0..n])
 }
 
 // A word and a number.
-fn say(word: &[u8], n: usize) {
-    io::write_all(1, word);
-    io::print_decimal(1, n as u64);
+fn say(rt: &impl Print, word: &str, n: usize) -> std::io::Result<()> {
+    print!(rt; "{word}{n}")
 }
 
 // The whole report.
-fn tell(rows: &[usize], told: Listed) {
+fn tell(rt: &impl Print, rows: &[usize], told: Listed) -> std::io::Result<()> {
     match told {
         Listed::Refused(k) => {
-            say(b"refused ", wide(k.number()));
+            say(rt, "refused ", wide(k.number()))?;
         }
         Listed::All { notes, ticks } => {
-            tell_rows(rows, notes);
-            say(b"end ", notes);
-            say(b" ", ticks);
+            tell_rows(rt, rows, notes)?;
+            say(rt, "end ", notes)?;
+            say(rt, " ", ticks)?;
         }
     }
-    io::write_all(1, b"\n");
+    rt.write_all(b"\n")
 }
 
 // A list through a reset chip.
@@ -119,34 +155,42 @@ fn sent(list: &[u8], rows: &mut [usize], between: Between) -> Listed {
 }
 
 // A list is sent, and what went is told.
-fn send_and_tell(list: &[u8], rows: &mut [usize], between: Between) {
+fn send_and_tell(
+    rt: &impl Print,
+    list: &[u8],
+    rows: &mut [usize],
+    between: Between,
+) -> std::io::Result<()> {
     let told = sent(list, rows, between);
-    tell(rows, told);
+    tell(rt, rows, told)
 }
 
 // The list that is read, its notes one behind the other by this choice.
-fn send(between: Between) {
-    let mut buffer = io::large_buffer();
-    let n = io::read_full(0, &mut buffer);
+fn send(rt: &(impl Input + Print), between: Between) -> std::io::Result<()> {
+    let mut buffer = list_room();
+    let n = read_full(rt, &mut buffer)?;
     let mut rows = room();
-    send_and_tell(&buffer[..n], &mut rows, between);
+    send_and_tell(rt, &buffer[..n], &mut rows, between)
 }
 
 // The one word that it may be given.
-fn is_shared() -> bool {
+fn is_shared(rt: &impl Env) -> bool {
     let mut word = [0u8; 16];
-    let n = os::arg(1, &mut word);
-    (os::arg_count() == 2) & check::same(&word[..n], b"--shared")
+    let n = rt.arg(1, &mut word).unwrap_or(0);
+    !has_arg(rt, 2) & check::same(&word[..n], b"--shared")
 }
 
-fn main() {
-    if os::arg_count() < 2 {
-        send(Between::usual());
-        return;
+// Whether there is an argument of this number; that before the first is the program's name.
+fn has_arg(rt: &impl Env, i: usize) -> bool {
+    !matches!(rt.arg(i, &mut []), Err(FillError::NotPresent))
+}
+
+fn main(rt: HostRuntime) -> std::io::Result<()> {
+    if !has_arg(&rt, 1) {
+        return send(&rt, Between::usual());
     }
-    if is_shared() {
-        send(Between::SharedFlag);
-        return;
+    if is_shared(&rt) {
+        return send(&rt, Between::SharedFlag);
     }
-    io::write_all(2, b"usage: sendlist [--shared] <LIST\n");
+    eprintln!(rt; "usage: sendlist [--shared] <LIST")
 }

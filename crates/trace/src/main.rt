@@ -2,44 +2,66 @@
 // script and events.
 #![tactic(auto)]
 
+ghost use Rattle.std.specs.Io.{ReadsAtMost};
+
 use chip::Chip;
+use std::io;
+use std::io::Read;
 use text::Line;
 
-// So many bytes are printed.
-fn say(bytes: &[u8], n: usize) {
-    if n <= bytes.len() {
-        io::write_all(1, &bytes[0..n]);
+// Reads until the buffer is full or the input ends; gives how many bytes it put at the buffer's start.
+fn read_full(rt: &impl Input, buffer: &mut [u8]) -> io::Result<usize>
+    ensures { ReadsAtMost result buffer.new }
+{
+    let mut reader = rt.reader();
+    let mut done = 0;
+    while done < buffer.len() {
+        let n = reader.read(&mut buffer[done..])?;
+        if n == 0 {
+            break;
+        }
+        done = done + n;
     }
+    Ok(done)
+}
+
+// So many bytes are printed.
+fn say(rt: &impl Print, bytes: &[u8], n: usize) -> io::Result<()> {
+    if n <= bytes.len() {
+        return rt.write_all(&bytes[0..n]);
+    }
+    Ok(())
 }
 
 // A line is printed.
-fn say_line(l: Line) {
+fn say_line(rt: &impl Print, l: Line) -> io::Result<()> {
     let text = l.text;
-    say(&text, l.size);
+    say(rt, &text, l.size)
 }
 
 // More lines than a run can have.
 const LINES: u16 = 20000;
 
-fn play(events: &[u8]) {
+fn play(rt: &impl Print, events: &[u8]) -> io::Result<()> {
     let mut chip = Chip::reset();
     let mut at = 0;
     let mut left = LINES;
     while 0 < left {
         let t = events::next(chip, events, at);
         if t.line.size == 0 {
-            return;
+            return Ok(());
         }
-        say_line(t.line);
+        say_line(rt, t.line)?;
         chip = t.chip;
         at = t.at;
         left = left - 1;
     }
+    Ok(())
 }
 
-fn main() {
+fn main(rt: HostRuntime) -> io::Result<()> {
     // a byte more than are taken
     let mut buffer = [0u8; 65537];
-    let n = io::read_full(0, &mut buffer);
-    play(&buffer[..n]);
+    let n = read_full(&rt, &mut buffer)?;
+    play(&rt, &buffer[..n])
 }
