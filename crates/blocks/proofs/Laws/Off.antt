@@ -14,7 +14,7 @@ use Rattle.bytesync.specs.declared.Synced.{Synced}
 use Rattle.bytesync.specs.Sending.{sent_bit, start_mark, following, tick_block}
 use Rattle.bytesync.specs.Within.{unit_left}
 use Rattle.blocks.specs.Come.{sends, Tick, acts_line, last_of}
-use Rattle.blocks.specs.Laws.Come.{tick_sync, tick_byte, tick_check}
+use Rattle.blocks.proofs.Laws.Come.{tick_sync, tick_byte, tick_check}
 
 -- what is left of the unit under way
 abbrev pub unit_bits : BlockUnit → List Bool

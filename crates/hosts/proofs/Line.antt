@@ -30,9 +30,9 @@ use Rattle.hosts.specs.Loaded.{sender_of, leaves, loads, loaded, idles, on_more,
 use Rattle.hosts.specs.Loaded.{closed}
 use Rattle.hosts.specs.Loaded.{Host}
 use Rattle.history.specs.Sending.Stories.{ended, still, writes, ticking}
-use Rattle.hosts.specs.Steps.{Going, opening, in_byte, in_check, closing, ahead, May, unopened}
-use Rattle.hosts.specs.Steps.{flag_left}
-use Rattle.hosts.specs.Steps.{steps}
+use Rattle.hosts.proofs.Steps.{Going, opening, in_byte, in_check, closing, ahead, May, unopened}
+use Rattle.hosts.proofs.Steps.{flag_left}
+use Rattle.hosts.proofs.Steps.{steps}
 use Rattle.hosts.specs.Statement.{EveryHost, Front, HostFront}
 
 -- What an event adds to what is loaded and to the flags that pass

@@ -26,9 +26,9 @@ use Rattle.sending.specs.Statement.{Closing, RunsDry, Underrun, status_latched}
 use Rattle.sending.specs.Statement.{NotClosed}
 use Rattle.sending.specs.Frame.{frame_begun}
 use Rattle.sending.specs.Chain.{starts_anew, frame_ends}
-use Rattle.sending.specs.Underrun.{underrun, late_sent, underrun_seen}
-use Rattle.sending.specs.Underrun.{reset_shows, never_unseen}
-use Rattle.sending.specs.Unclosed.{frame_seen}
+use Rattle.sending.proofs.Underrun.{underrun, late_sent, underrun_seen}
+use Rattle.sending.proofs.Underrun.{reset_shows, never_unseen}
+use Rattle.sending.proofs.Unclosed.{frame_seen}
 use Rattle.timely.specs.Tests.{timely, in_time_lem, freely, free_of}
 use Rattle.sending.specs.Tests.{demand3_tested, watching, watched_of}
 

@@ -35,8 +35,8 @@ use Rattle.feed.specs.Feeding.{takes_byte, Supplied, supply, after_ticks, ticks_
 use Rattle.drive.specs.Drive.{look_a, empty_a, write_a, tick_a, bit_a, Offered, offered, offer}
 use Rattle.drive.specs.Drive.{driven, driven_line}
 use Rattle.drive.specs.Framer.{with_underrun, channel_with, chip_with}
-use Rattle.drive.specs.Laws.Calls.{sending_a, tick_good, Stands, bit_stands}
-use Rattle.drive.specs.Laws.Look.{d2, look_same}
+use Rattle.drive.proofs.Laws.Calls.{sending_a, tick_good, Stands, bit_stands}
+use Rattle.drive.proofs.Laws.Look.{d2, look_same}
 
 -- What a tick of the sender says of its buffer
 

@@ -20,10 +20,10 @@ use Rattle.blocks.specs.Characters.{bits_of, ends_of, pattern_bits, pattern_leng
 use Rattle.blocks.specs.Characters.{turn_after, block_given, block_bytes, letting, Feeds}
 use Rattle.blocks.specs.Come.{Good, sync_bits, behind, closed, Act, acts_line, ticks, InTime}
 use Rattle.blocks.specs.Come.{sync_length, started, sync_head, block_bits}
-use Rattle.blocks.specs.Laws.Check.{with_check_bits, with_check_below, with_check_length}
+use Rattle.blocks.proofs.Laws.Check.{with_check_bits, with_check_below, with_check_length}
 use Rattle.whole.specs.Laws.Bytes.{below_join}
-use Rattle.blocks.specs.Laws.Brought.{block_fed}
-use Rattle.blocks.specs.Laws.Sent.{block_sent}
+use Rattle.blocks.proofs.Laws.Brought.{block_fed}
+use Rattle.blocks.proofs.Laws.Sent.{block_sent}
 
 -- the character behind the check, and the bits behind that
 abbrev pub last_byte : Syncing → List ℕ → ℕ

@@ -26,13 +26,13 @@ use Rattle.drive.specs.Drive.{look_a, can_send, stands_still, set_up, freed, pre
 use Rattle.settings.specs.Bytes.{send_abort}
 use Rattle.drive.specs.Drive.{control_a, driven, driven_line, frame_opened, ticks_left}
 use Rattle.drive.specs.Drive.{sent_by}
-use Rattle.drive.specs.Laws.Calls.{sending_a, Stands, stands_as, set_up_stands}
-use Rattle.drive.specs.Laws.Look.{look_same}
-use Rattle.drive.specs.Laws.Frame.{flag_before, opens, flag_again, beginning}
-use Rattle.drive.specs.Laws.Frame.{frame_stage, come_length, sent_stands, frame_sent}
+use Rattle.drive.proofs.Laws.Calls.{sending_a, Stands, stands_as, set_up_stands}
+use Rattle.drive.proofs.Laws.Look.{look_same}
+use Rattle.drive.proofs.Laws.Frame.{flag_before, opens, flag_again, beginning}
+use Rattle.drive.proofs.Laws.Frame.{frame_stage, come_length, sent_stands, frame_sent}
 use Rattle.listline.specs.ListLine.{flagged, sent_next, sent_all}
 use Rattle.listline.specs.ListLine.{note_line, flag_line, next_lines, all_line}
-use Rattle.listline.specs.Laws.Empty.{rests}
+use Rattle.listline.proofs.Laws.Empty.{rests}
 
 -- Behind a flag
 

@@ -25,13 +25,13 @@ use Rattle.history.specs.Sending.Side.{good, good_heeded, SenderSide, side, send
 use Rattle.history.specs.Sending.Events.{ticked_of, tick_side}
 use Rattle.timely.specs.Free.{Free}
 use Rattle.sending.specs.Statement.{RunsDry}
-use Rattle.sending.specs.Underrun.{underrun_seen}
+use Rattle.sending.proofs.Underrun.{underrun_seen}
 use Rattle.hosts.specs.Loaded.{sender_of, loads, loaded, idles, on_more, passed, flags, closed}
 use Rattle.hosts.specs.Loaded.{Host}
 use Rattle.history.specs.Sending.Stories.{ended, still, writes, ticking}
-use Rattle.hosts.specs.Steps.{in_check}
+use Rattle.hosts.proofs.Steps.{in_check}
 use Rattle.hosts.specs.Statement.{FedLate, IncidentTold, NoIncident}
-use Rattle.hosts.specs.Line.{tick_loaded, tick_passed, kept, every_host}
+use Rattle.hosts.proofs.Line.{tick_loaded, tick_passed, kept, every_host}
 
 -- Joining stories
 

@@ -13,7 +13,7 @@ use Rattle.stories.specs.Sent.{ticks}
 use Rattle.history.specs.Sending.Side.{side_of, full_of, latch_of}
 use Rattle.timely.specs.Start.{Start}
 use Rattle.starts.specs.Statement.{Begins, GoesOn, ended, kept, ticking, FlagSent}
-use Rattle.starts.specs.Flag.{where_starts}
+use Rattle.starts.proofs.Started.{where_starts}
 
 -- WR4 for SDLC, WR5 with the sender on and the check included: the sender idles
 abbrev pub idle : Chip

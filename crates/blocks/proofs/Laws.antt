@@ -1,5 +1,6 @@
 -- The laws of whole blocks, a file for each part.
 pub mod Check
+pub mod Checked
 pub mod Register
 pub mod Hunt
 pub mod Received

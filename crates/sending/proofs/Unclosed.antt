@@ -27,11 +27,11 @@ use Rattle.sending.specs.Statement.{Watched, FrameSeen}
 use Rattle.history.specs.Sending.Events.{ticked_of, tick_side, tick_bit, write_side, write_no_tick}
 use Rattle.history.specs.Sending.Events.{skip_line}
 use Rattle.shown.specs.Shown.{shows_read}
-use Rattle.sending.specs.Underrun.{heeds_of, tick_heeds, write_heeds, tick_latch, write_latch}
-use Rattle.sending.specs.Underrun.{Seen, watched_seen, shown}
+use Rattle.sending.proofs.Underrun.{heeds_of, tick_heeds, write_heeds, tick_latch, write_latch}
+use Rattle.sending.proofs.Underrun.{Seen, watched_seen, shown}
 use Rattle.whole.specs.Come as come
 use Rattle.history.specs.Sending.Stories as hosts
-use Rattle.sending.specs.Underrun as underruns
+use Rattle.sending.proofs.Underrun as underruns
 
 -- the latch, once set, is set at the end
 stays_set : (w : Which) {c : Chip} {st : List Event} → Watched w c st → heeds_of w c ≡ good

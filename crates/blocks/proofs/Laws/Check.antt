@@ -82,12 +82,3 @@ pub check_emptied : (p r : ℕ) → r < 65536 → check_over p r (top_bits 16 r)
 check_emptied p r h =
     tops_shift p 16 r (check_bits r) (check_bits_length r) ∙ check_own 0 r h
     ∙ (unfold check_over check_step in refl)
-
--- a text and its check leave 0
-pub with_check_zero : (p : ℕ) (vs : List ℕ) → p < 65536
-    → check_over p 0 (text_bits 8 (with_check p vs)) ≡ 0
-with_check_zero p vs h =
-    let bs = text_bits 8 vs in
-    let c = check_over p 0 bs in
-    ap (check_over p 0) (with_check_bits p vs) ∙ check_join p 0 bs (top_bits 16 c)
-    ∙ check_emptied p c (check_lt p h 0 bs (omega arith))

@@ -27,7 +27,7 @@ use Rattle.blocks.specs.Check.{check_from}
 use Rattle.blocks.specs.Come.{Good, Sends, sends, ticked, filled_with, sync_bits, behind}
 use Rattle.blocks.specs.Come.{closed, to_come, chooses, in_time, Stage, at_mark}
 use Rattle.blocks.specs.Come.{opening, in_byte, in_check, in_tail, closing}
-use Rattle.blocks.specs.Laws.Hunt.{low_bits_above}
+use Rattle.blocks.proofs.Laws.Hunt.{low_bits_above}
 
 -- Bits
 

@@ -24,8 +24,8 @@ use Rattle.blocks.specs.Characters.{Character, Brings, nothing, brings, kept, en
 use Rattle.blocks.specs.Characters.{pattern_bits, pattern_length, further_syncs, turn_after, each}
 use Rattle.blocks.specs.Characters.{let_in, first_free, block_of, block_given}
 use Rattle.whole.specs.Laws.Flip.{flip_found}
-use Rattle.blocks.specs.Laws.Check.{with_check_zero}
-use Rattle.blocks.specs.Laws.Hunt.{assembled, byte_whole, sync_found}
+use Rattle.blocks.proofs.Laws.Checked.{with_check_zero}
+use Rattle.blocks.proofs.Laws.Hunt.{assembled, byte_whole, sync_found}
 
 -- Characters
 

@@ -14,8 +14,8 @@ use Rattle.blocks.specs.Characters.{Character, char, Brings, nothing, brings, bi
 use Rattle.blocks.specs.Characters.{lets_of, further_syncs, each, let_in, first_free, block_of}
 use Rattle.blocks.specs.Characters.{pattern_bits, pattern_length, turn_after, block_given}
 use Rattle.blocks.specs.Characters.{block_bytes, letting, Feeds}
-use Rattle.blocks.specs.Laws.Hunt.{pattern_length_lem}
-use Rattle.blocks.specs.Laws.Received.{block_heard, block_flipped}
+use Rattle.blocks.proofs.Laws.Hunt.{pattern_length_lem}
+use Rattle.blocks.proofs.Laws.Received.{block_heard, block_flipped}
 
 -- Bits found in ticks
 

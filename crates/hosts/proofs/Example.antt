@@ -10,12 +10,12 @@ use Rattle.stories.specs.Story.{A, happens, after, throughout}
 use Rattle.stories.specs.Sent.{line_of}
 use Rattle.stories.specs.Sending.{times, tick, begin, dry, late, whole, choosing}
 use Rattle.timely.specs.Tests.{timely}
-use Rattle.sending.specs.Example as sending
+use Rattle.sending.proofs.Example as sending
 use Rattle.hosts.specs.Loaded.{loaded, passed, flags, closed}
 use Rattle.hosts.specs.Statement.{Shortened}
 use Rattle.hosts.specs.Tests.{hosting, host_of}
-use Rattle.hosts.specs.Line.{every_host}
-use Rattle.hosts.specs.Late.{incident_told}
+use Rattle.hosts.proofs.Line.{every_host}
+use Rattle.hosts.proofs.Late.{incident_told}
 
 -- 1F owes a zero behind its five ones, so it lasts nine ticks: the next byte comes behind the
 -- eighth of them

@@ -21,9 +21,9 @@ use Rattle.blocks.specs.Come.{closed, to_come, Stage, at_mark, opening, in_byte,
 use Rattle.blocks.specs.Come.{closing, Act, Tick, Write, acts_line, ticks, last_of, InTime}
 use Rattle.blocks.specs.Come.{over, ticking, writing, writing_behind, sync_length, started}
 use Rattle.blocks.specs.Come.{sync_head, block_bits, readied}
-use Rattle.blocks.specs.Laws.Hunt.{low_bits_above}
-use Rattle.blocks.specs.Laws.Come.{takes, moves, moves_behind}
-use Rattle.blocks.specs.Laws.Check.{top_bits_length}
+use Rattle.blocks.proofs.Laws.Hunt.{low_bits_above}
+use Rattle.blocks.proofs.Laws.Come.{takes, moves, moves_behind}
+use Rattle.blocks.proofs.Laws.Check.{top_bits_length}
 
 -- Stories
 

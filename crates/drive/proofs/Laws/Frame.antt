@@ -28,9 +28,9 @@ use Rattle.feed.specs.Laws.Feeding.{ends}
 use Rattle.drive.specs.Drive.{between_frames, write_a, tick_a, offer, driven, driven_line}
 use Rattle.drive.specs.Drive.{prepared, ticks_to_flag, flag_ended, frame_opened, ticks_left}
 use Rattle.drive.specs.Framer.{chip_with}
-use Rattle.drive.specs.Laws.Calls.{Stands, stands_as, tick_stands, bit_stands, write_stands}
-use Rattle.drive.specs.Laws.Calls.{preset_stands, clear_stands, prepared_well}
-use Rattle.drive.specs.Laws.Framer.{driven_with, line_with, own_framer}
+use Rattle.drive.proofs.Laws.Calls.{Stands, stands_as, tick_stands, bit_stands, write_stands}
+use Rattle.drive.proofs.Laws.Calls.{preset_stands, clear_stands, prepared_well}
+use Rattle.drive.proofs.Laws.Framer.{driven_with, line_with, own_framer}
 
 -- Up to a flag's end
 
