@@ -10,7 +10,8 @@ use lib.ListN.{length, get_or}
 use Rattle.line.specs.Bits.{low_bits, text_bits}
 use Rattle.line.specs.Check.{ones}
 use Rattle.line.specs.Frame.{content_of}
-use Rattle.line.specs.Laws.Frame.{content_is, zeros_few}
+use Rattle.line.specs.Laws.Frame.{zeros_few}
+use Rattle.line.proofs.Content.{content_is}
 use Rattle.mirror.specs.Mirror.{mirrored_byte}
 use Rattle.mirror.specs.Laws.{mirrored_byte_lt, remaining, remaining_all, remaining_step, remaining_none}
 use Rattle.tally.specs.declared.Tally.{Tally}
