@@ -17,7 +17,7 @@ use Rattle.history.specs.Sending.Events.{skip_line, line_join}
 use Rattle.history.specs.Receiving.Side as receiving
 use Rattle.history.specs.Receiving.Events.{Hearing}
 use Rattle.hosts.specs.Loaded.{loaded, passed}
-use Rattle.hosts.specs.Line.{every_host}
+use Rattle.hosts.proofs.Line.{every_host}
 use Rattle.aborts.specs.Statement.{Cuts, LeftToRun, abort_line, sent, AbortCuts, AbortUntold}
 use Rattle.aborts.specs.Statement.{AbortDeaf}
 use Rattle.aborts.specs.Statement.{waiting_of, Listens, ends_told}

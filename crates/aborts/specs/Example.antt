@@ -18,7 +18,7 @@ use Rattle.stories.specs.Receiving.{listening, story}
 use Rattle.history.specs.Receiving.Side as receiving
 use Rattle.history.specs.Receiving.Events.{Hearing}
 use Rattle.timely.specs.Tests.{freely, free_of}
-use Rattle.sending.specs.Example as sending
+use Rattle.sending.proofs.Example as sending
 use Rattle.history.specs.Sending.Stories.{anew}
 use Rattle.hosts.specs.Loaded.{loaded, passed, flags, closed}
 use Rattle.hosts.specs.Tests.{hosting, host_of}

@@ -29,10 +29,10 @@ use Rattle.history.specs.Sending.Anew.{write_preset, write_clear}
 use Rattle.sending.specs.Chain.{mode_in_lem}
 use Rattle.hosts.specs.Loaded.{sender_of, loaded, on_more, passed, flags, closed, Host}
 use Rattle.history.specs.Sending.Stories.{ended, still, writes, ticking}
-use Rattle.hosts.specs.Steps.{ahead, none_leaves, none_passes, opening}
-use Rattle.hosts.specs.Line.{skip_loaded, skip_passed, tick_loaded, tick_passed, kept, ended_none}
-use Rattle.hosts.specs.Line.{flags_swap}
-use Rattle.hosts.specs.Line.{every_host}
+use Rattle.hosts.proofs.Steps.{ahead, none_leaves, none_passes, opening}
+use Rattle.hosts.proofs.Line.{skip_loaded, skip_passed, tick_loaded, tick_passed, kept, ended_none}
+use Rattle.hosts.proofs.Line.{flags_swap}
+use Rattle.hosts.proofs.Line.{every_host}
 use Rattle.aborts.specs.Statement.{Followed, AbortFollowed}
 use Rattle.aborts.specs.Abort.{cut}
 

@@ -3,5 +3,4 @@ pub mod Heard
 pub mod Characters
 pub mod Register
 pub mod Come
-pub mod Laws
 pub mod Example

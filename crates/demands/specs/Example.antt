@@ -21,7 +21,7 @@ use Rattle.receiving.specs.Statement.{Listening, Received}
 use Rattle.receiving.specs.Room.{in_room, fed}
 use Rattle.timely.specs.Tests.{in_time_lem}
 use Rattle.demands.specs.Together.{together}
-use Rattle.sending.specs.Example as sending
+use Rattle.sending.proofs.Example as sending
 
 -- the bits of the sender's line, from the first bit of its opening flag on
 abbrev pub sent : List Event → List Bool

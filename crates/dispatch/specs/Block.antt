@@ -12,8 +12,8 @@ use Rattle.bytesync.specs.Sending.{tick_block}
 use Rattle.blocks.specs.Come.{Sends, sends, ticked, filled_with, sync_bits, closed, to_come, in_time}
 use Rattle.blocks.specs.Come.{Stage}
 use Rattle.blocks.specs.Come.{opening, sync_head, block_bits}
-use Rattle.blocks.specs.Laws.Come.{takes, moves, moves_behind}
-use Rattle.blocks.specs.Laws.Sent.{sync_length_lem, closed_length}
+use Rattle.blocks.proofs.Laws.Come.{takes, moves, moves_behind}
+use Rattle.blocks.proofs.Laws.Sent.{sync_length_lem, closed_length}
 use Rattle.chip.specs.declared.Chip.{Chip}
 use Rattle.chip.specs.Event.{Event, DataWrite, Transmit}
 use Rattle.stories.specs.Story.{Which, number, chan, happens, after}

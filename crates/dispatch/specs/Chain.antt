@@ -18,7 +18,7 @@ use Rattle.bytesync.specs.declared.Syncing.{Syncing}
 use Rattle.whole.specs.Come.{waiting}
 use Rattle.blocks.specs.Come.{Sends, sync_bits, behind, closed, to_come, Stage, at_mark}
 use Rattle.blocks.specs.Come.{opening, in_byte, in_check, in_tail, closing, sync_length, sync_head}
-use Rattle.blocks.specs.Laws.Sent.{sync_length_lem, closed_length}
+use Rattle.blocks.proofs.Laws.Sent.{sync_length_lem, closed_length}
 use Rattle.sender.specs.declared.Sender.{Sender}
 use Rattle.sender.specs.Sender.{check_preset, latch_cleared}
 use Rattle.settings.specs.Settings.{mode_in, sending_of}

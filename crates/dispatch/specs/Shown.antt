@@ -7,7 +7,7 @@ use Rattle.bytesync.specs.declared.BlockUnit.TheVariants.{Byte}
 use Rattle.bytesync.specs.declared.Synced.{Synced}
 use Rattle.bytesync.specs.Sending.{start_check, tick_block}
 use Rattle.blocks.specs.Come.{Sends, sends}
-use Rattle.blocks.specs.Laws.Come.{check_begins}
+use Rattle.blocks.proofs.Laws.Come.{check_begins}
 use Rattle.chip.specs.declared.Chip.{Chip}
 use Rattle.chip.specs.Event.{Transmit}
 use Rattle.stories.specs.Story.{Which, number, chan, happens}

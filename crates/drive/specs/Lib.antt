@@ -1,3 +1,2 @@
 pub mod Drive
 pub mod Framer
-pub mod Laws

@@ -2,4 +2,3 @@ pub mod Setting
 pub mod Service
 pub mod Resets
 pub mod Modes
-pub mod Laws

@@ -8,9 +8,9 @@ use Rattle.bytesync.specs.Hearing.{expected}
 use Rattle.blocks.specs.Check.{with_check}
 use Rattle.blocks.specs.Characters.{ends_of, pattern_length, turn_after, letting}
 use Rattle.blocks.specs.Come.{sync_head}
-use Rattle.blocks.specs.Laws.Check.{with_check_length}
-use Rattle.blocks.specs.Laws.Together.{last_byte, bits_left, line_bytes, Alike, same_bytes, all_below}
-use Rattle.blocks.specs.Laws.Together.{given_all}
+use Rattle.blocks.proofs.Laws.Check.{with_check_length}
+use Rattle.blocks.proofs.Laws.Together.{last_byte, bits_left, line_bytes, Alike, same_bytes, all_below}
+use Rattle.blocks.proofs.Laws.Together.{given_all}
 use Rattle.chip.specs.declared.Chip.{Chip}
 use Rattle.chip.specs.Event.{Event}
 use Rattle.stories.specs.Story.{Which}

@@ -1,7 +1,3 @@
 pub mod Loaded
-pub mod Steps
 pub mod Statement
-pub mod Line
-pub mod Late
 pub mod Tests
-pub mod Example

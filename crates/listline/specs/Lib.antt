@@ -1,2 +1,1 @@
 pub mod ListLine
-pub mod Laws

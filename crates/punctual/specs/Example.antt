@@ -7,7 +7,7 @@ use Rattle.stories.specs.Story.{A}
 use Rattle.stories.specs.Sent.{ticks}
 use Rattle.stories.specs.Sending.{times, begin, noisy}
 use Rattle.timely.specs.Tests.{in_time_lem}
-use Rattle.sending.specs.Example as sending
+use Rattle.sending.proofs.Example as sending
 use Rattle.punctual.specs.Statement.{Punctual}
 use Rattle.punctual.specs.Punctual.{in_time_loads}
 

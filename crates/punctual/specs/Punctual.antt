@@ -24,10 +24,10 @@ use Rattle.timely.specs.InTime.{InTime, over, still, writes, next_frame_lem, tic
 use Rattle.sending.specs.Frame.{tick_taken}
 use Rattle.hosts.specs.Loaded.{sender_of, leaves, loaded, idles, on_more, passed, Host}
 use Rattle.history.specs.Sending.Stories as hosts
-use Rattle.hosts.specs.Steps.{Going, meant, steps}
-use Rattle.hosts.specs.Steps as steps
+use Rattle.hosts.proofs.Steps.{Going, meant, steps}
+use Rattle.hosts.proofs.Steps as steps
 use Rattle.punctual.specs.Statement.{InTimeLoads}
-use Rattle.hosts.specs.Line.{skip_loaded, skip_passed, tick_loaded, tick_passed}
+use Rattle.hosts.proofs.Line.{skip_loaded, skip_passed, tick_loaded, tick_passed}
 
 stage_going : {s : Framer} {n : ℕ} {rest : List ℕ} → Stage false s n rest → Going s
 stage_going (opening k b f c n rest m p) = steps.opening k b f c

@@ -1,3 +1,2 @@
 pub mod Statement
 pub mod Flag
-pub mod Example

@@ -18,7 +18,7 @@ use Rattle.flags.specs.declared.Between.{Between}
 use Rattle.flags.specs.Flags.{own_flag}
 use Rattle.drive.specs.Drive.{driven, frame_opened, ticks_left, sent_by}
 use Rattle.drive.specs.Framer.{chip_with}
-use Rattle.drive.specs.Laws.Frame.{beginning, begins, driven_frame, come_length}
+use Rattle.drive.proofs.Laws.Frame.{beginning, begins, driven_frame, come_length}
 use Rattle.listline.specs.ListLine.{flagged, before_note}
 use Rattle.line.specs.Laws.Line.{fits_few}
 use Rattle.station.specs.Walk.{flag_ticks}

@@ -11,7 +11,7 @@ use Rattle.bytesync.specs.Hearing.{searching, wrong}
 use Rattle.blocks.specs.Check.{with_check}
 use Rattle.blocks.specs.Heard.{Final, hear_all, before, entries_of}
 use Rattle.blocks.specs.Characters.{block_given, Feeds}
-use Rattle.blocks.specs.Laws.Brought.{block_fed, flipped_fed}
+use Rattle.blocks.proofs.Laws.Brought.{block_fed, flipped_fed}
 use Rattle.settings.specs.Settings.{crc16_chosen, receiving_of}
 use Rattle.chip.specs.declared.Chip.{Chip}
 use Rattle.chip.specs.Event.{Event}

@@ -10,7 +10,7 @@ use Rattle.bytesync.specs.declared.Reception.{Reception}
 use Rattle.bytesync.specs.Hearing.{searching, hear_block}
 use Rattle.blocks.specs.Register.{Tale, Hunt, Within, told, entrants_of, check_through}
 use Rattle.blocks.specs.Register as register
-use Rattle.blocks.specs.Laws.Register.{Steady, ticked, through_one}
+use Rattle.blocks.proofs.Laws.Register.{Steady, ticked, through_one}
 use Rattle.receiver.specs.declared.Receiver.{Receiver}
 use Rattle.receiver.specs.declared.Heard.{Heard}
 use Rattle.receiver.specs.Receiver.{by_matched, dropped, hear}

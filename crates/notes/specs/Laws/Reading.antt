@@ -1,6 +1,6 @@
 -- Laws of reading a list: the reading from a place on, the scan's answer, and a walk over the
 -- notes. Assumes nothing.
-use Rattle.std.specs.Prelude.{◌≡◌, refl, not, ℕ, zero, suc, ◌+◌, ◌-◌, ◌≤◌, eqb, ltb, length, get_or}
+use Rattle.std.specs.Prelude.{◌≡◌, refl, not, ℕ, zero, suc, ◌+◌, ◌≤◌, eqb, ltb, length, get_or}
 use Rattle.std.proofs.Common.{sym, ap, ◌∙◌, arith, zero-add, add-zero, lt-ltb}
 use mathlib.Core.List.{List, [], ◌∷◌, foldl}
 use Rattle.common.specs.Tools.{lt_or, if_elim}

@@ -5,15 +5,15 @@ use Rattle.std.proofs.Common.{sym, ap, ◌∙◌}
 use Rattle.line.specs.Frame.{flag_bits}
 use Rattle.flags.specs.declared.Between.{Between}
 use Rattle.flags.specs.Flags.{line_behind, list_line}
-use Rattle.flags.specs.Laws.{line_length}
+use Rattle.flags.proofs.Laws.{line_length}
 use Rattle.notes.specs.NoteList.{Reading, whole, read_list}
 use Rattle.chip.specs.declared.Chip.{Chip}
 use Rattle.chip.specs.Chip.{hard_reset}
 use Rattle.drive.specs.Drive.{prepared}
-use Rattle.drive.specs.Laws.Frame.{flag_before}
+use Rattle.drive.proofs.Laws.Frame.{flag_before}
 use Rattle.listline.specs.ListLine.{line_after}
-use Rattle.listline.specs.Laws.Fits.{read_fits}
-use Rattle.listline.specs.Laws.Line.{list_line_lem, list_line_reset}
+use Rattle.listline.proofs.Laws.Fits.{read_fits}
+use Rattle.listline.proofs.Laws.Line.{list_line_lem, list_line_reset}
 use Rattle.report.specs.Report.{reported, report_of}
 use Rattle.told.specs.declared.Listed.TheVariants as listed
 use Rattle.station.specs.Station.{listed_of}

@@ -1,0 +1,4 @@
+pub mod Steps
+pub mod Line
+pub mod Late
+pub mod Example

@@ -1,0 +1,3 @@
+pub mod Underrun
+pub mod Unclosed
+pub mod Example
