@@ -1,6 +1,6 @@
 -- 02, P6: "Its line, its zero count and its refusals must equal the first writer's for every note
 -- and every buffer, untouched bytes included": the two writers are one function. Assumes nothing.
-use Rattle.std.specs.Prelude.{◌≡◌, refl, Bool, true, false, List, ◌++◌, ℕ, ◌+◌, ◌-◌, ◌≤◌, ltb, length, take, drop, if◌then◌else◌}
+use Rattle.std.specs.Prelude.{◌≡◌, refl, Bool, true, false, List, ◌++◌, ℕ, ◌-◌, ◌≤◌, ltb, length, take, drop, if◌then◌else◌}
 use Rattle.std.proofs.Common.{ap, ap₂, ◌∙◌, arith, ltb-false, length-drop, drop-drop}
 use Rattle.common.specs.declared.Refusal.TheVariants.{NoteLength, NoRoom}
 use Rattle.line.specs.Bits.{cells}
