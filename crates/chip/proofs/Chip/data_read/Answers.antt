@@ -1,0 +1,17 @@
+-- `chip::Chip::data_read` meets its contract: each return by the facts on its way. Assumes nothing.
+use Rattle.chip.proofs.Branch.{tests}
+use Rattle.chip.specs.Chip.{data_read_call}
+use borrow.Author.Rules.{rules}
+use Rattle.chip.proofs.Chip.data_read.Goals as goal
+
+pub returns-in-0 : goal.returns-in-0
+unfolding data_read_call
+returns-in-0 c = simp (tests, c.put.ensures, c.in-0.is, ← c.data_read.ensures)
+
+pub returns-in-1 : goal.returns-in-1
+unfolding data_read_call
+returns-in-1 c = simp (tests, c.put-in-1.ensures, c.in-1.is, ← c.data_read-in-1.ensures)
+
+pub returns-in_default : goal.returns-in_default
+unfolding data_read_call
+returns-in_default c = search (rules, tests)
