@@ -25,7 +25,7 @@ use Rattle.sender.specs.Sender.{framer_of, by_framer, with_break, tick, aborted}
 use Rattle.sender.specs.Good.{Good}
 use Rattle.sender.specs.Laws.Tick.{tick_sdlc_lem, abort_sdlc}
 use Rattle.settings.specs.declared.Lines.{Lines}
-use Rattle.settings.specs.Settings.{sending_of, command_in, mode_of, mode_in, not_built}
+use Rattle.settings.specs.Settings.{sending_of, mode_of, mode_in, not_built}
 use Rattle.channel.specs.declared.Side.TheVariants.{A}
 use Rattle.channel.specs.declared.Answer.TheVariants.{Done}
 use Rattle.channel.specs.declared.Answered.{Answered}
