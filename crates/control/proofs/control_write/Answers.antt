@@ -1,11 +1,6 @@
 -- `control::control_write` meets its contract: each return by the facts on its way. Assumes nothing.
 use Rattle.control.proofs.Branch.{tests}
 use Rattle.channel.specs.Control.{control_written}
-use Rattle.control.proofs.control_write.Reads as reads
-use Rattle.control.proofs.control_write.Lts as lts
-use Rattle.control.proofs.write_register.Reads as write-register-reads
-use Rattle.control.proofs.write_wr0.Reads as write-wr0-reads
-use Rattle.settings.proofs.not_built.Reads as not-built-reads
 use Rattle.control.proofs.control_write.Goals as goal
 
 pub returns-then-c-not_built : goal.returns-then-c-not_built

@@ -1,12 +1,6 @@
 -- `control::set_register` meets its contract: each return by the facts on its way. Assumes nothing.
 use Rattle.control.proofs.Branch.{tests}
 use Rattle.channel.specs.Control.{set_register}
-use Rattle.control.proofs.set_register.Reads as reads
-use Rattle.control.proofs.set_register.Lts as lts
-use Rattle.control.proofs.set_wr1.Reads as set-wr1-reads
-use Rattle.control.proofs.set_wr2.Reads as set-wr2-reads
-use Rattle.control.proofs.set_wr3.Reads as set-wr3-reads
-use Rattle.control.proofs.set_wr4.Reads as set-wr4-reads
 use borrow.Author.Rules.{rules}
 use Rattle.control.proofs.set_register.Goals as goal
 

@@ -43,9 +43,6 @@ loop-i-init c =
     let note = c.args.note.now in
     (ap (tallied (tally 0 0)) (ap (text_bits 8) (remaining_all note) ∙ sym (content_is note)), (omega arith, (omega arith, omega arith)))
 
-pub bounds-note-i : goal.bounds-note-i
-bounds-note-i c = omega arith
-
 pub count_byte-t-requires : goal.count_byte-t-requires
 count_byte-t-requires c =
     let l = c.loop-i in
@@ -53,12 +50,6 @@ count_byte-t-requires c =
     let rest = text_bits 8 (remaining note l.i l.m) in
     let n = few note l.t rest c.if-note-gt-LONGEST_NOTE.false l.invariant.0 in
     (omega (arith, l.invariant.1.0), (omega (arith, l.invariant.1.1.0), omega (arith, l.invariant.1.1.0)))
-
-pub overflow_add-i : goal.overflow_add-i
-overflow_add-i c = omega arith
-
-pub loop-i-smaller : goal.loop-i-smaller
-loop-i-smaller c = omega arith
 
 pub loop-i-preserved : goal.loop-i-preserved
 loop-i-preserved c =
@@ -71,9 +62,6 @@ loop-i-preserved c =
     let runs = tallied_runs l.t (low_bits 8 v) l.invariant.1.1.0 in
     rw (c.count_byte-t.ensures, c.mirrored_byte-m.ensures)
     (on, (runs.0, (runs.1, mirrored_byte_lt l.m v)))
-
-pub overflow_cast-check : goal.overflow_cast-check
-overflow_cast-check c = omega arith
 
 pub count_byte-t-requires-2 : goal.count_byte-t-requires-2
 count_byte-t-requires-2 c =

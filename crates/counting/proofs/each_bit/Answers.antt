@@ -20,12 +20,6 @@ closed_after-closed-requires c =
     let l = c.loop-left in
     omega (arith, c.requires.1.1, l.invariant.1.0, l.invariant.1.1.1)
 
-pub overflow_sub-left : goal.overflow_sub-left
-overflow_sub-left c = omega arith
-
-pub loop-left-smaller : goal.loop-left-smaller
-loop-left-smaller c = omega arith
-
 pub loop-left-preserved : goal.loop-left-preserved
 loop-left-preserved c =
     let l = c.loop-left in

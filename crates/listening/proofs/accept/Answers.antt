@@ -1,7 +1,6 @@
 -- `listening::accept` meets its contract: each return by the facts on its way. Assumes nothing.
 use Rattle.listening.proofs.Branch.{tests}
 use Rattle.sdlc.specs.Hearing.{accept}
-use borrow.Author.Rules.{rules}
 use Rattle.listening.proofs.accept.Goals as goal
 
 pub returns-then-c-lt-LAST : goal.returns-then-c-lt-LAST

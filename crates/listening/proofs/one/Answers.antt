@@ -1,7 +1,6 @@
 -- `listening::one` meets its contract: each return by the facts on its way. Assumes nothing.
 use Rattle.listening.proofs.Branch.{tests}
 use Rattle.sdlc.specs.Hearing.{one}
-use borrow.Author.Rules.{rules}
 use Rattle.listening.proofs.one.Goals as goal
 
 pub returns-then-s : goal.returns-then-s

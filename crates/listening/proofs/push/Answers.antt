@@ -1,7 +1,6 @@
 -- `listening::push` meets its contract: each return by the facts on its way. Assumes nothing.
 use Rattle.listening.proofs.Branch.{tests}
 use Rattle.sdlc.specs.Hearing.{push}
-use borrow.Author.Rules.{rules}
 use Rattle.listening.proofs.push.Goals as goal
 
 pub returns-then-d-lt-FULL : goal.returns-then-d-lt-FULL

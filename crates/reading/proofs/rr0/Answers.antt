@@ -1,6 +1,5 @@
 -- `reading::rr0` meets its contract: each return by the facts on its way. Assumes nothing.
 use Rattle.channel.specs.Control.{rr0}
-use borrow.Author.Rules.{rules}
 use Rattle.reading.proofs.rr0.Goals as goal
 
 pub returns : goal.returns

@@ -6,7 +6,6 @@ use Rattle.sdlc.specs.declared.Framing.{Framing}
 use Rattle.sender.specs.Sender.{tick_in_sdlc}
 use Rattle.sender.specs.Laws.Tick.{tick_sdlc_lem}
 use Rattle.settings.specs.Settings.{sending_of}
-use Rattle.channel.proofs.Branch.{tests}
 use Rattle.channel.specs.Laws.Still.{in_sdlc_lem}
 use Rattle.channel.proofs.Channel.ticked.Goals as goal
 

@@ -1,7 +1,6 @@
 -- `listening::within::hear_within` meets its contract: each return by the facts on its way. Assumes nothing.
 use Rattle.listening.proofs.Branch.{tests}
 use Rattle.sdlc.specs.Within.{moved_on}
-use borrow.Author.Rules.{rules}
 use Rattle.listening.proofs.within.hear_within.Goals as goal
 
 pub returns : goal.returns
