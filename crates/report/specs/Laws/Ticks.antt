@@ -1,6 +1,6 @@
 -- The ticks of a note and of a list: the zero count gives the one, a walk over the notes the other.
 -- Assumes nothing.
-use Rattle.std.specs.Prelude.{◌≡◌, refl, true, ℕ, ◌-◌, ◌≤◌, length}
+use Rattle.std.specs.Prelude.{◌≡◌, refl, true, ℕ, ◌≤◌, length}
 use Rattle.std.proofs.Common.{sym, ap, arith}
 use mathlib.Core.List.{List, foldl}
 use Rattle.common.specs.Tools.{bool_or}
