@@ -8,7 +8,6 @@ use Rattle.line.specs.Frame.{flag_bits, ticks_of}
 use Rattle.line.specs.Line.{note_fits}
 use Rattle.line.specs.Laws.Frame.{ticks_are}
 use Rattle.shared.specs.declared.Shared.{Shared}
-use Rattle.shared.specs.Shared.{shared}
 use Rattle.sdlc.specs.declared.Framer.{Framer}
 use Rattle.chip.specs.declared.Chip.{Chip}
 use Rattle.feed.specs.declared.Run.{Run}

@@ -5,7 +5,7 @@ use Rattle.events.proofs.behind.Goals as goal
 
 pub returns-then-left-eq1 : goal.returns-then-left-eq1
 unfolding behind
-returns-then-left-eq1 c = simp (tests, c.if-left-eq1.true)
+returns-then-left-eq1 c = simp c.if-left-eq1.true
 
 pub returns : goal.returns
 unfolding behind

@@ -1,8 +1,8 @@
--- `events::played` meets its contract: each return by the facts on its way. Assumes nothing.
-use Rattle.events.proofs.Branch.{tests}
+-- `events::played` meets its contract: by the event's answer and its line. Assumes nothing.
+use Rattle.std.proofs.Common.{rules}
 use Rattle.events.specs.Run.{played}
 use Rattle.events.proofs.played.Goals as goal
 
 pub returns : goal.returns
 unfolding played
-returns c = simp (tests, c.told_line.ensures, c.step-o.ensures)
+returns c = search rules
