@@ -1,6 +1,6 @@
 -- Laws of headings: with a body, by its text or by its check, a heading gives the check of the
 -- whole note. Assumes nothing.
-use Rattle.std.specs.Prelude.{◌≡◌, refl, List, ◌++◌, false, ℕ, ◌+◌, ◌<◌, length, if◌then◌else◌}
+use Rattle.std.specs.Prelude.{◌≡◌, refl, List, ◌++◌, false, ℕ, ◌<◌, length, if◌then◌else◌}
 use Rattle.std.proofs.Common.{sym, ap, ap₂, ◌∙◌, arith, ne_eqb, length-append}
 use Rattle.std.proofs.lemmas.Bool.{lt-leb}
 use Rattle.common.specs.Tools.{bool_or}
