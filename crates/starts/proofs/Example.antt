@@ -32,15 +32,30 @@ pub record Examples : Type 0 where
   pub preset : (chan A (after idle (Transmit 0 ∷ along))).sender.shared.check ≡ ones
   pub cleared : latch_of A (after idle (Transmit 0 ∷ along)) ≡ false
 
+-- the chip in the first tick of the flag, and what is left of the story behind the preset
+abbrev flagged : Chip
+flagged = (happens idle (Transmit 0)).chip
+
+abbrev cleared_behind : List Event
+cleared_behind = ControlWrite 0 clear_underrun ∷ Transmit 0 ∷ Transmit 0 ∷ []
+
 pub examples : Examples
 unfolding computing after
 examples = record {
   begins =
       record { air = record { mode = refl; no_break = refl; on = refl }; paid = refl; next = refl };
   goes_on_lem =
-      kept refl refl refl (record { mode = refl; no_break = refl; on = refl })
-      (kept refl refl refl (record { mode = refl; no_break = refl; on = refl })
-      (ticking (ticking ended)));
+      kept {c = flagged} {e = ControlWrite 0 preset_sent} {st = cleared_behind} refl refl refl
+      (record { mode = refl; no_break = refl; on = refl })
+      (kept {c = (happens flagged (ControlWrite 0 preset_sent)).chip}
+      {e = ControlWrite 0 clear_underrun} {st = Transmit 0 ∷ Transmit 0 ∷ []} refl refl refl
+      (record { mode = refl; no_break = refl; on = refl })
+      (ticking {c = after flagged (ControlWrite 0 preset_sent ∷ ControlWrite 0 clear_underrun ∷ [])}
+      {st = Transmit 0 ∷ []}
+      (ticking
+      {c = after flagged
+      (ControlWrite 0 preset_sent ∷ ControlWrite 0 clear_underrun ∷ Transmit 0 ∷ [])}
+      {st = []} ended)));
   included = refl;
   empty = refl;
   preset = refl;

@@ -8,22 +8,19 @@ use Rattle.sdlc.specs.declared.LineUnit.{LineUnit}
 use Rattle.sdlc.specs.declared.LineUnit.TheVariants.{Mark, Flag, Byte, Check, Abort}
 use Rattle.sdlc.specs.declared.Framing.{Framing}
 use Rattle.sdlc.specs.declared.Framed.{Framed}
-use Rattle.sdlc.specs.Sending.{insertion, not_counted, framer, start_flag, flag_bit, tick_sdlc}
+use Rattle.sdlc.specs.Sending.{insertion, not_counted, framer, flag_bit, tick_sdlc}
 use Rattle.sdlc.specs.Sound.{SoundUnit}
 use Rattle.sdlc.specs.Laws.Tick.{tick_flag, tick_chooses, next_mark, next_abort, next_check}
 use Rattle.sdlc.specs.Laws.Tick.{next_flag_empty}
 use Rattle.sdlc.specs.Laws.Tick.{next_byte_flag}
-use Rattle.sender.specs.declared.Ticked.{Ticked}
-use Rattle.sender.specs.Sender.{by_framer, with_break, tick}
-use Rattle.sender.specs.Laws.Tick.{tick_sdlc_lem}
 use Rattle.chip.specs.declared.Chip.{Chip}
 use Rattle.chip.specs.Event.{Event, Transmit}
 use Rattle.whole.specs.Come.{flag_tail}
 use Rattle.whole.specs.Start.{flag_head}
 use Rattle.stories.specs.Story.{Which, number, chan, happens, after}
-use Rattle.stories.specs.Sent.{is_tick, line_bit, line_of, ticks}
-use Rattle.history.specs.Sending.Side.{SenderSide, side, sending_in, part, side_of}
-use Rattle.history.specs.Sending.Events.{ticks_to, ticks_to_lem, tick_gives, tick_more, skip_line}
+use Rattle.stories.specs.Sent.{line_of, ticks}
+use Rattle.history.specs.Sending.Side.{SenderSide, side_of}
+use Rattle.history.specs.Sending.Events.{tick_more, skip_line}
 use Rattle.history.specs.Sending.Events.{skip_ticks}
 use Rattle.starts.specs.Statement.{OnAir, flag_next, GoesOn, ended, kept, ticking, WhereStarts}
 use Rattle.starts.specs.Flag.{ticked_on, air_side, air_bit, air_stays, Begun, begun_by}
