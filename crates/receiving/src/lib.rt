@@ -1,3 +1,2 @@
 //! No code to run: specs/ holds demand 2, receiving: its statement and its proof.
 #![tactic(auto)]
-

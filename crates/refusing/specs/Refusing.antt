@@ -5,7 +5,6 @@
 -- each function's own proof: no public function has a `requires`. Assumes nothing.
 use Rattle.std.specs.Prelude.{◌≡◌, refl, ◌≢◌, not, ◌||◌, List, [], ◌∷◌, ℕ, ◌-◌, eqb, ltb, leb, length, get_or, if◌then◌else◌}
 use Rattle.common.specs.Tools.{bool_or}
-use Rattle.common.specs.Refusal.{number_of}
 use Rattle.zeros.specs.declared.Counted.{Counted}
 use Rattle.line.specs.Frame.{frame, ticks_of}
 use Rattle.line.specs.Line.{note_fits}
@@ -14,7 +13,7 @@ use Rattle.zeros.specs.Zeros.{count_of}
 use Rattle.writer.specs.Writer.{write_of, buffer_after}
 use Rattle.head.specs.Number.{head_number}
 use Rattle.head.specs.NoteHead.{length_bytes, length_at, head_of}
-use Rattle.notes.specs.NoteList.{Reading, whole, refuses, rest_from, first_note, version, longest_list}
+use Rattle.notes.specs.NoteList.{rest_from, first_note, version, longest_list}
 use Rattle.notes.specs.NoteList.{read_list, reading_number}
 use Rattle.chip.specs.declared.Chip.{Chip}
 use Rattle.chip.specs.Event.{Event}

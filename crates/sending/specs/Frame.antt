@@ -5,10 +5,9 @@ use Rattle.std.proofs.Common.{sym, ap, ap₂, ◌∙◌, append_assoc, append-ni
 use Rattle.common.specs.Tools.{no_items}
 use Rattle.line.specs.Frame.{frame}
 use Rattle.line.specs.Laws.Frame.{ticks_are}
-use Rattle.shared.specs.Shared.{shared}
 use Rattle.sdlc.specs.declared.Framer.{Framer}
 use Rattle.sdlc.specs.declared.Framed.{Framed}
-use Rattle.sdlc.specs.Sending.{framer, tick_sdlc}
+use Rattle.sdlc.specs.Sending.{tick_sdlc}
 use Rattle.chip.specs.declared.Chip.{Chip}
 use Rattle.chip.specs.Event.{Event, DataWrite, Transmit}
 use Rattle.whole.specs.Come.{to_come, filled_with}
