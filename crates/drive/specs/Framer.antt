@@ -1,6 +1,6 @@
 -- Channel A with another state of its SDLC sender: what a station's ticks and data writes leave of
 -- its other parts, once a byte waits that no tick has loaded yet. That this is what they leave is
--- said in Laws/Framer. Assumes nothing.
+-- said in proofs/Laws/Framer. Assumes nothing.
 use Rattle.std.specs.Prelude.{Bool, not, ◌&&◌}
 use Rattle.sdlc.specs.declared.Framer.{Framer}
 use Rattle.sender.specs.Sender.{framer_in}

@@ -1,4 +1,4 @@
-// 02, P7: how notes follow each other on the line, and how many ticks so many notes take. specs/Flags.antt has the line of a list, specs/Laws.antt
+// 02, P7: how notes follow each other on the line, and how many ticks so many notes take. specs/Flags.antt has the line of a list, proofs/Laws.antt
 // that it is as long as its ticks. Assumes nothing.
 #![tactic(auto)]
 

@@ -1,3 +1,2 @@
--- Laws of the shapes, and of the bits that are sent. Assumes nothing.
+-- Laws of the shapes; those of the bits that are sent stand in proofs/. Assumes nothing.
 pub mod Shapes
-pub mod Sent

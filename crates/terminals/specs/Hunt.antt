@@ -9,7 +9,7 @@ use Rattle.receiver.specs.Receiver.{enter_hunt}
 use Rattle.settings.specs.Settings.{store3, enters_hunt, mode_in, receiving_of}
 use Rattle.status.specs.declared.Live.{Live}
 use Rattle.status.specs.declared.Status.{Status}
-use Rattle.status.specs.Status.{status, changed, noticed, shown_bits}
+use Rattle.status.specs.Status.{changed, noticed, shown_bits}
 use Rattle.channel.specs.declared.Side as channel
 use Rattle.channel.specs.declared.Side.TheVariants as channels
 use Rattle.channel.specs.declared.Channel.{Channel}

@@ -2,7 +2,7 @@
 use mathlib.Core.Path.{sym, ap, ◌∙◌}
 use native.Mathlib.Omega.{arith}
 use Rattle.advance.specs.Advance.{advanced}
-use Rattle.advance.specs.Laws.Advance.{advanced_none, advanced_even, advanced_odd}
+use Rattle.advance.proofs.Laws.Advance.{advanced_none, advanced_even, advanced_odd}
 use Rattle.advance.proofs.+advance.Goals as goal
 
 pub returns-then-k-eq0 : goal.returns-then-k-eq0

@@ -3,7 +3,7 @@ use mathlib.Core.Path.{sym, ap, ◌∙◌}
 use native.Mathlib.Omega.{arith}
 use lib.Bits.{bit_xor, xor_zero_l, xor_zero_r}
 use Rattle.advance.specs.Advance.{product}
-use Rattle.advance.specs.Laws.Advance.{product_none, product_step}
+use Rattle.advance.proofs.Laws.Advance.{product_none, product_step}
 use Rattle.advance.proofs.product.Goals as goal
 
 pub loop-rest-init : goal.loop-rest-init

@@ -5,7 +5,7 @@ use Rattle.std.proofs.Common.{arith, length-append}
 use Rattle.common.specs.Tools.{if_elim}
 use Rattle.line.specs.Laws.Bits.{low_bits_length}
 use Rattle.shapes.specs.Sent.{bits_sent, sent_bits}
-use Rattle.shapes.specs.Laws.Sent.{bits_most}
+use Rattle.shapes.proofs.Sent.{bits_most}
 use Rattle.asynchronous.specs.declared.Format.{Format}
 use Rattle.asynchronous.specs.declared.Typing.{Typing}
 use Rattle.asynchronous.specs.Sending.{parity_bits, stop_bits, character_bits}

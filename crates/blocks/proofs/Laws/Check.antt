@@ -7,7 +7,7 @@ use Rattle.line.specs.Bits.{text_bits, Below, below_none, below_more}
 use Rattle.line.specs.Check.{top, shifted, differs, check_step, check_over, top_bits, check_bits}
 use Rattle.line.specs.Laws.Bits.{text_bits_join}
 use Rattle.line.specs.Laws.Xor.{differs_self}
-use Rattle.line.specs.Laws.Check.{check_join, check_own, check_lt}
+use Rattle.line.specs.Laws.Check.{check_own}
 use Rattle.line.specs.Laws.Check.{check_bits_length}
 use Rattle.shared.specs.Preset.{zeros}
 use Rattle.line.specs.Laws.Frame.{byte_of}

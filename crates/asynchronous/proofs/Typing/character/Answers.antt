@@ -1,6 +1,6 @@
 -- `asynchronous::Typing::character` meets its contract: parts of at most eight, one and two bits fit, and they lie as the definition's bits do. Assumes nothing.
 use native.Mathlib.Omega.{arith}
-use Rattle.shapes.specs.Laws.Sent.{bits_least, bits_most}
+use Rattle.shapes.proofs.Sent.{bits_least, bits_most}
 use Rattle.asynchronous.specs.Laws.Character.{stops_most}
 use Rattle.asynchronous.proofs.Laws.{ones_most, bit_most, with_parity_lem, without_parity}
 use Rattle.asynchronous.proofs.Typing.character.Goals as goal
