@@ -1,7 +1,7 @@
 -- What is to come on the line. From a sender of these modes and the bytes that the host has still
 -- to write, `to_come` gives the bits from here to the end of the sync behind the block, if each byte
 -- is written in time: `rest` are the bytes of the block, `tail` those that go straight behind its
--- check. The laws (Laws/Come): a tick in time takes the first of these bits (`takes`), a write into
+-- check. The laws (proofs/Laws/Come): a tick in time takes the first of these bits (`takes`), a write into
 -- the empty buffer changes none of them (`moves`, `moves_behind`). Assumes nothing.
 use Rattle.std.specs.Prelude.{◌≡◌, Bool, true, false, not, ◌||◌, List, [], ◌∷◌, ◌++◌, ℕ, suc, ◌-◌, ◌/◌, ◌^◌, ◌<◌, eqb, take, if◌then◌else◌}
 use Rattle.line.specs.Bits.{low_bits, text_bits}

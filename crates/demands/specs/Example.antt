@@ -18,7 +18,7 @@ use Rattle.whole.specs.Heard.{in_hunt}
 use Rattle.whole.specs.Frames.{ended}
 use Rattle.history.specs.Receiving.Side.{side_of}
 use Rattle.receiving.specs.Statement.{Listening, Received}
-use Rattle.receiving.specs.Room.{in_room, fed}
+use Rattle.receiving.proofs.Room.{in_room, fed}
 use Rattle.timely.specs.Tests.{in_time_lem}
 use Rattle.demands.specs.Together.{together}
 use Rattle.sending.proofs.Example as sending

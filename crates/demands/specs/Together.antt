@@ -12,7 +12,7 @@ use Rattle.stories.specs.Sent.{line_of, ticks}
 use Rattle.stories.specs.Received.{bits_of}
 use Rattle.whole.specs.Frames.{ended}
 use Rattle.receiving.specs.Statement.{Listening, Fed, Received}
-use Rattle.receiving.specs.Demand.{demand2}
+use Rattle.receiving.proofs.Demand.{demand2}
 use Rattle.timely.specs.Start.{Start}
 use Rattle.timely.specs.InTime.{InTime}
 use Rattle.sending.specs.Frame.{demand3}

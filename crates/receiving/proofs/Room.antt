@@ -11,7 +11,7 @@ use Rattle.history.specs.Receiving.Side.{side_of}
 use Rattle.history.specs.Receiving.Quiet.{quiet, quiet_keeps}
 use Rattle.history.specs.Receiving.Stories.{hears_where, hears_where_lem}
 use Rattle.receiving.specs.Statement.{Listening, roomy, Fed, Received}
-use Rattle.receiving.specs.Demand.{demand2}
+use Rattle.receiving.proofs.Demand.{demand2}
 
 -- ticks that find room, reads anywhere, and else only what is quiet
 abbrev pub in_room : Which → Chip → List Event → Bool

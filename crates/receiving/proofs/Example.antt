@@ -18,9 +18,9 @@ use Rattle.whole.specs.Heard.{in_hunt}
 use Rattle.whole.specs.Frames.{ended, between_flags, frames_of, all_ended, no_more, one_more_lem}
 use Rattle.history.specs.Receiving.Side.{side_of}
 use Rattle.receiving.specs.Statement.{Listening, Received, Moment, Found}
-use Rattle.receiving.specs.Room.{in_room, fed, demand2_run}
-use Rattle.receiving.specs.Demand.{listens_again, notes2, always2, overrun_kept, mark2}
-use Rattle.receiving.specs.Flip.{flipped2}
+use Rattle.receiving.proofs.Room.{in_room, fed, demand2_run}
+use Rattle.receiving.proofs.Demand.{listens_again, notes2, always2, overrun_kept, mark2}
+use Rattle.receiving.proofs.Flip.{flipped2}
 
 -- what is left once RR1 is named
 abbrev pub looks : List Event

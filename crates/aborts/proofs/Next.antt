@@ -34,7 +34,7 @@ use Rattle.hosts.proofs.Line.{skip_loaded, skip_passed, tick_loaded, tick_passed
 use Rattle.hosts.proofs.Line.{flags_swap}
 use Rattle.hosts.proofs.Line.{every_host}
 use Rattle.aborts.specs.Statement.{Followed, AbortFollowed}
-use Rattle.aborts.specs.Abort.{cut}
+use Rattle.aborts.proofs.Abort.{cut}
 
 abbrev frame_ahead : Which → Chip → List Event → List Bool
 frame_ahead w c ys = flags (passed w c ys) ++ frame (loaded w c ys)

@@ -23,8 +23,8 @@ use Rattle.history.specs.Sending.Stories.{anew}
 use Rattle.hosts.specs.Loaded.{loaded, passed, flags, closed}
 use Rattle.hosts.specs.Tests.{hosting, host_of}
 use Rattle.aborts.specs.Statement.{Cuts, sent, abort_line, waiting_of, Aborted, ends_told}
-use Rattle.aborts.specs.Abort.{abort3, abort_unheard}
-use Rattle.aborts.specs.Next.{after_abort}
+use Rattle.aborts.proofs.Abort.{abort3, abort_unheard}
+use Rattle.aborts.proofs.Next.{after_abort}
 use Rattle.aborts.specs.Tests.{free_runs, attending, attends_of}
 
 -- a receiver behind a reset, in SDLC and on, that hears a line: the end marks

@@ -18,7 +18,7 @@ use Rattle.whole.specs.Laws.Flip.{flip_found}
 use Rattle.whole.specs.Laws.Frames.{unaddressed, bad_if, bytes_heard}
 use Rattle.history.specs.Receiving.Side.{side_of}
 use Rattle.receiving.specs.Statement.{Listening, Fed, Received, Flipped2}
-use Rattle.receiving.specs.Demand.{address_of, received_bytes}
+use Rattle.receiving.proofs.Demand.{address_of, received_bytes}
 
 -- any whole bytes between flags, at least one
 pub bytes2 : (w : Which) (c : Chip) (st : List Event) (bytes : List ℕ) → Listening (side_of w c)

@@ -1,0 +1,3 @@
+pub mod Abort
+pub mod Next
+pub mod Example

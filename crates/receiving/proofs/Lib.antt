@@ -1,0 +1,4 @@
+pub mod Demand
+pub mod Flip
+pub mod Room
+pub mod Example
