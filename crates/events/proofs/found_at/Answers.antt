@@ -1,7 +1,6 @@
 -- `events::found_at` meets its contract: each return by the facts on its way. Assumes nothing.
 use Rattle.events.proofs.Branch.{tests}
 use Rattle.events.specs.Run.{found_at}
-use borrow.Author.Rules.{rules}
 use Rattle.events.proofs.found_at.Goals as goal
 
 pub returns-then-events-at : goal.returns-then-events-at

@@ -1,11 +1,8 @@
 -- `events::told_line` meets its contract: the numbers that are left, put from here, always end as all seven do. Assumes nothing.
-use borrow.Author.Rules.{rules}
 use Prim.Native.Nat.{◌≤◌}
-use mathlib.Core.Path.{◌≡◌, refl}
-use native.Mathlib.Omega.{arith}
+use mathlib.Core.Path.{◌≡◌}
 use Rattle.text.specs.Text.{empty_line}
-use Rattle.events.specs.Run.{numbers_left, told_line}
-use Rattle.events.proofs.Laws.{numbers_step, numbers_none}
+use Rattle.events.specs.Run.{numbers_left}
 use Rattle.events.proofs.told_line.Given as goal
 
 abbrev pub invariant-loop-left : goal.invariant-loop-left
