@@ -4,12 +4,11 @@
 #![tactic(auto)]
 
 ghost use Rattle.std.specs.Prelude.{◌≡◌, length};
-ghost use Rattle.std.specs.Io.{ReadsAtMost};
 ghost use Rattle.items.specs.Lines.{ended};
 ghost use Rattle.playing.specs.Playing.{played};
 
+use intake::read_full;
 use std::io;
-use std::io::Read;
 
 // Room for all items.
 const INPUT: usize = 262144;
@@ -27,22 +26,6 @@ fn space() -> [u8; SPACE]
     ensures { 65600 ≡ length result }
 {
     [0; SPACE]
-}
-
-// Reads until the buffer is full or the input ends; gives how many bytes it put at the buffer's start.
-fn read_full(rt: &impl Input, buffer: &mut [u8]) -> io::Result<usize>
-    ensures { ReadsAtMost result buffer.new }
-{
-    let mut reader = rt.reader();
-    let mut done = 0;
-    while done < buffer.len() {
-        let n = reader.read(&mut buffer[done..])?;
-        if n == 0 {
-            break;
-        }
-        done = done + n;
-    }
-    Ok(done)
 }
 
 // The items are played, and the last line told; gives where the lines end.

@@ -6,7 +6,9 @@ ghost use Rattle.std.specs.Prelude.{◌≡◌};
 ghost use Rattle.common.specs.Mode.{synchronous, same_mode};
 ghost use Rattle.channel.specs.declared.Side.TheVariants.{A as OfA, B as OfB};
 ghost use Rattle.channel.specs.Channel.{with_pointer, settled};
-ghost use Rattle.channel.specs.Control.{commanded, preset, command_step, preset_step, write_wr0, set_wr1, set_wr2, set_wr3, in_mode, set_wr4, set_register, control_written};
+ghost use Rattle.channel.specs.Control.{commanded, preset, command_step, preset_step, write_wr0};
+ghost use Rattle.channel.specs.Control.{set_wr1, set_wr2, set_wr3, in_mode, set_wr4, set_register};
+ghost use Rattle.channel.specs.Control.{control_written};
 
 use channel::{Answer, Answered, Channel, Side};
 use common::{Mode, Refusal, in_blocks, in_sdlc, mode_number};

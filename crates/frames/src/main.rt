@@ -3,15 +3,14 @@
 #![tactic(auto)]
 
 ghost use Rattle.std.specs.Prelude.{◌≡◌, length};
-ghost use Rattle.std.specs.Io.{ReadsAtMost};
 
 use common::Refusal;
 use head::{Head, LENGTH_BYTES, head_at, note_at};
+use intake::read_full;
 use lent::write_line_by;
 use line::LONGEST_NOTE;
 use notes::{FIRST_NOTE, Scanned, scan};
 use std::io;
-use std::io::Read;
 use zeros::Counted;
 
 const ZERO: u8 = b'0';
@@ -23,22 +22,6 @@ fn room() -> [u8; ROOM]
     ensures { 65536 ≡ length result }
 {
     [0; ROOM]
-}
-
-// Reads until the buffer is full or the input ends; gives how many bytes it put at the buffer's start.
-fn read_full(rt: &impl Input, buffer: &mut [u8]) -> io::Result<usize>
-    ensures { ReadsAtMost result buffer.new }
-{
-    let mut reader = rt.reader();
-    let mut done = 0;
-    while done < buffer.len() {
-        let n = reader.read(&mut buffer[done..])?;
-        if n == 0 {
-            break;
-        }
-        done = done + n;
-    }
-    Ok(done)
 }
 
 fn print(rt: &impl Print, text: &[u8]) -> io::Result<()> {

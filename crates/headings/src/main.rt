@@ -5,15 +5,14 @@
 #![tactic(auto)]
 
 ghost use Rattle.std.specs.Prelude.{◌≡◌, length};
-ghost use Rattle.std.specs.Io.{ReadsAtMost};
 
 use common::Refusal;
 use head::{Head, LENGTH_BYTES, head_at, note_at};
 use heading::{Heading, NoteCheck};
+use intake::read_full;
 use joining::{CheckRule, check_of};
 use notes::{FIRST_NOTE, Scanned, scan};
 use std::io;
-use std::io::Read;
 
 // Room for a list, and a byte more than a list may have.
 const LIST: usize = 65536;
@@ -31,22 +30,6 @@ fn pair_room() -> [u8; PAIR]
     ensures { 4096 ≡ length result }
 {
     [0; PAIR]
-}
-
-// Reads until the buffer is full or the input ends; gives how many bytes it put at the buffer's start.
-fn read_full(rt: &impl Input, buffer: &mut [u8]) -> io::Result<usize>
-    ensures { ReadsAtMost result buffer.new }
-{
-    let mut reader = rt.reader();
-    let mut done = 0;
-    while done < buffer.len() {
-        let n = reader.read(&mut buffer[done..])?;
-        if n == 0 {
-            break;
-        }
-        done = done + n;
-    }
-    Ok(done)
 }
 
 fn print(rt: &impl Print, text: &[u8]) -> io::Result<()> {

@@ -1,7 +1,11 @@
 -- Laws of the mirrored check register: its bits, the check as it is sent, and a byte at once.
 -- Assumes nothing.
-use Rattle.std.specs.Prelude.{◌≡◌, refl, Bool, false, List, [], ◌∷◌, ◌++◌, ℕ, zero, suc, ◌+◌, ◌*◌, ◌/◌, ◌%◌, ◌^◌, ◌≤◌, ◌<◌, T, eqb, length, replicate, take, drop, get_or}
-use Rattle.std.proofs.Common.{sym, ap, ap₂, ◌∙◌, pow-suc, add-mul, mul_assoc, add-one, arith, pow-add, shl_lt, eqb→eq, drop_of_length-le, take_at, drop_at, drop-cons}
+use Rattle.std.specs.Prelude.{◌≡◌, refl, Bool, false, List, [], ◌∷◌, ◌++◌, ℕ, zero, suc, ◌+◌, ◌*◌}
+use Rattle.std.specs.Prelude.{◌/◌, ◌%◌, ◌^◌, ◌≤◌, ◌<◌, T, eqb, length, replicate, take, drop}
+use Rattle.std.specs.Prelude.{get_or}
+use Rattle.std.proofs.Common.{sym, ap, ap₂, ◌∙◌, pow-suc, add-mul, mul_assoc, add-one, arith}
+use Rattle.std.proofs.Common.{pow-add, shl_lt, eqb→eq, drop_of_length-le, take_at, drop_at}
+use Rattle.std.proofs.Common.{drop-cons}
 use Rattle.std.specs.Int.Bits.{bit_xor, xor_zero_r, xor_shifted}
 use Rattle.std.proofs.lemmas.Nat.{xor_mod, xor_shr, xor_lt, xor_block}
 use Rattle.common.specs.Tools.{two_cases, below, below→}

@@ -3,7 +3,9 @@
 
 ghost use Rattle.std.specs.Prelude.{◌≡◌, true, false};
 ghost use Rattle.sender.specs.Sender.{ticked, framer_of, framer_in, by_framer, by_typist, by_syncing, with_break, tick};
-ghost use Rattle.sender.specs.Sender.{with_shared, block_in, tick_in_sdlc, tick_in_blocks, written, aborted, check_preset, latch_cleared, idled, at_reset, all_sent, buffer_ready};
+ghost use Rattle.sender.specs.Sender.{with_shared, block_in, tick_in_sdlc, tick_in_blocks};
+ghost use Rattle.sender.specs.Sender.{written, aborted, check_preset, latch_cleared, idled};
+ghost use Rattle.sender.specs.Sender.{at_reset, all_sent, buffer_ready};
 
 use asynchronous::{Character, Typed, Typing};
 use bytesync::{BlockUnit, Synced, Syncing};

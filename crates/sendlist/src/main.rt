@@ -4,13 +4,12 @@
 #![tactic(auto)]
 
 ghost use Rattle.std.specs.Prelude.{◌≡◌, ◌+◌, ◌≤◌, length, IfOk};
-ghost use Rattle.std.specs.Io.{ReadsAtMost};
 
 use chip::Chip;
 use flags::Between;
+use intake::read_full;
 use station::{Listed, ROW};
 use std::env::{Env, FillError};
-use std::io::Read;
 
 // Room for the rows of every list: a note takes three bytes of it or more.
 const ROWS: usize = 4 * 21845;
@@ -36,22 +35,6 @@ fn text_room() -> [u8; TEXT]
     ensures { 4096 ≡ length result }
 {
     [0; TEXT]
-}
-
-// Reads until the buffer is full or the input ends; gives how many bytes it put at the buffer's start.
-fn read_full(rt: &impl Input, buffer: &mut [u8]) -> std::io::Result<usize>
-    ensures { ReadsAtMost result buffer.new }
-{
-    let mut reader = rt.reader();
-    let mut done = 0;
-    while done < buffer.len() {
-        let n = reader.read(&mut buffer[done..])?;
-        if n == 0 {
-            break;
-        }
-        done = done + n;
-    }
-    Ok(done)
 }
 
 fn room() -> [usize; ROWS]

@@ -1,6 +1,7 @@
 -- Ones counted in fives, a bit and a byte at a time, are the run and the zeros inserted. Assumes
 -- nothing.
-use Rattle.std.specs.Prelude.{◌≡◌, refl, Bool, true, false, not, ◌&&◌, ◌||◌, List, [], ◌∷◌, ◌++◌, ℕ, ◌+◌, ◌-◌, ◌*◌, ◌/◌, ◌%◌, ◌≤◌, ◌<◌, T, eqb, ltb, if◌then◌else◌}
+use Rattle.std.specs.Prelude.{◌≡◌, refl, Bool, true, false, not, ◌&&◌, ◌||◌, List, [], ◌∷◌, ◌++◌}
+use Rattle.std.specs.Prelude.{ℕ, ◌+◌, ◌-◌, ◌*◌, ◌/◌, ◌%◌, ◌≤◌, ◌<◌, T, eqb, ltb, if◌then◌else◌}
 use Rattle.std.proofs.Common.{ap, ap₂, append-nil, arith, eq-eqb, ne_eqb, eqb→eq}
 use Rattle.common.specs.Tools.{eqb_elim, ltb_elim, if_elim, below→, and_left, and_right}
 use Rattle.common.specs.Tools.{void}

@@ -2,28 +2,10 @@
 // script and events.
 #![tactic(auto)]
 
-ghost use Rattle.std.specs.Io.{ReadsAtMost};
-
 use chip::Chip;
+use intake::read_full;
 use std::io;
-use std::io::Read;
 use text::Line;
-
-// Reads until the buffer is full or the input ends; gives how many bytes it put at the buffer's start.
-fn read_full(rt: &impl Input, buffer: &mut [u8]) -> io::Result<usize>
-    ensures { ReadsAtMost result buffer.new }
-{
-    let mut reader = rt.reader();
-    let mut done = 0;
-    while done < buffer.len() {
-        let n = reader.read(&mut buffer[done..])?;
-        if n == 0 {
-            break;
-        }
-        done = done + n;
-    }
-    Ok(done)
-}
 
 // So many bytes are printed.
 fn say(rt: &impl Print, bytes: &[u8], n: usize) -> io::Result<()> {

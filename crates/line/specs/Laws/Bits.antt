@@ -1,7 +1,9 @@
 -- Laws of bits and texts: lengths, joining, and the way back from bits to numbers. Assumes
 -- nothing.
 use Rattle.std.specs.Prelude.{◌≡◌, refl, Bool, true, false, List, [], ◌∷◌, ◌++◌, ℕ, zero, suc, ◌+◌, ◌-◌, ◌*◌, ◌/◌, ◌%◌, ◌^◌, ◌≤◌, ◌<◌, eqb, length, take, drop}
-use Rattle.std.proofs.Common.{sym, ap, ap₂, ◌∙◌, append_assoc, zero-add, zero-lt-suc, mod-eq_of_lt, pow-suc, mul-zero, mul-suc, sub-one, arith, length-append, pow_pos, shr-shr, take_at, drop_at}
+use Rattle.std.proofs.Common.{sym, ap, ap₂, ◌∙◌, append_assoc, zero-add, zero-lt-suc, mod-eq_of_lt}
+use Rattle.std.proofs.Common.{pow-suc, mul-zero, mul-suc, sub-one, arith, length-append, pow_pos}
+use Rattle.std.proofs.Common.{shr-shr, take_at, drop_at}
 use Rattle.std.proofs.Math.Arith.{mod-mul}
 use Rattle.common.specs.Tools.{two_cases}
 use Rattle.line.specs.Bits.{odd, low_bits, text_bits, one_if, cells, from_low}

@@ -1,7 +1,9 @@
 -- Reading a list and putting it together undo each other. Assumes nothing.
 use Rattle.std.specs.Prelude.{◌≡◌, not, List, [], ◌∷◌, ◌++◌, ltb, length, get_or, take, drop, if◌then◌else◌}
 use Rattle.std.proofs.Math.Path.{refl}
-use Rattle.std.proofs.Common.{sym, ap, ap₂, subst, ◌∙◌, arith, add-zero, add-one, length-append, length-drop, drop_of_length-le, take-append-drop, drop-cons, drop-drop, get_or-drop, le-ltb}
+use Rattle.std.proofs.Common.{sym, ap, ap₂, subst, ◌∙◌, arith, add-zero, add-one, length-append}
+use Rattle.std.proofs.Common.{length-drop, drop_of_length-le, take-append-drop, drop-cons}
+use Rattle.std.proofs.Common.{drop-drop, get_or-drop, le-ltb}
 use Rattle.std.proofs.Math.Bool.{true}
 use Prim.Native.Nat.{ℕ, zero, suc, ◌+◌, ◌/◌, ◌%◌, ◌≤◌, ◌<◌}
 use Rattle.std.proofs.Math.Numerals.{add-two}

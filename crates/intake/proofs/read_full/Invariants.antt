@@ -1,6 +1,6 @@
--- `headings::read_full` is safe and ends: each turn leaves less room. Assumes nothing.
+-- `intake::read_full` is safe and ends: each turn leaves less room. Assumes nothing.
 use Rattle.std.proofs.Common.{◌-◌, ◌≡◌, ◌≤◌, length}
-use Rattle.headings.proofs.read_full.Given as goal
+use Rattle.intake.proofs.read_full.Given as goal
 
 abbrev pub invariant-loop-done : goal.invariant-loop-done
 invariant-loop-done g l = (length l.buffer ≡ length l.initial.buffer) × (l.done ≤ length l.buffer)
