@@ -1,6 +1,6 @@
 -- Behind an abort, a preset and a clear, the bytes loaded are the frame that follows. Assumes
 -- nothing.
-use Rattle.std.specs.Prelude.{◌≡◌, refl, Bool, true, false, List, [], ◌∷◌, ◌++◌, ℕ, zero, suc, take, replicate}
+use Rattle.std.specs.Prelude.{◌≡◌, refl, Bool, true, false, List, [], ◌∷◌, ◌++◌, ℕ, zero, suc, take, replicate, Option, Some, is_some, unwrap_or}
 use Rattle.std.proofs.Common.{sym, ap, ◌∙◌, append-nil, take_at}
 use Rattle.common.specs.Tools.{void}
 use Rattle.common.specs.declared.Mode.TheVariants.{Sdlc}
@@ -40,8 +40,8 @@ abbrev frame_ahead : Which → Chip → List Event → List Bool
 frame_ahead w c ys = flags (passed w c ys) ++ frame (loaded w c ys)
 
 -- k ones are left, the check is preset and the latch cleared
-abbrev cut_off : ℕ → ℕ → ℕ → Bool → Framer
-cut_off k r b f = framer (Abort k) (insertion r false) (shared b f false ones)
+abbrev cut_off : ℕ → ℕ → Option ℕ → Framer
+cut_off k r b = framer (Abort k) (insertion r false) (shared b false ones)
 
 record Rest (w : Which) (c : Chip) (ys : List Event) (k : ℕ) : Type 0 where
   pub rest : List Bool
@@ -70,37 +70,38 @@ past w c x ys k z i = record {
   none = i.none;
 }
 
-follow : (w : Which) {c : Chip} {ys : List Event} → Host w c ys → (k r b : ℕ) (f : Bool)
-    → side_of w c ≡ side (cut_off k r b f) good → Rest w c ys k
+follow : (w : Which) {c : Chip} {ys : List Event} → Host w c ys → (k r : ℕ) (b : Option ℕ)
+    → side_of w c ≡ side (cut_off k r b) good → Rest w c ys k
 unfolding line_of after loaded passed flags
-follow w ended k r b f e = record {
+follow w ended k r b e = record {
   rest = replicate k true ++ frame [];
   whole = refl;
   none = λ z. void (sym (ap (λ (x : SenderSide). frame_ended x.sender) e) ∙ z);
 }
-follow w (still {c = c} {e = x} {st = st} q t h) k r b f e =
-    past w c x st k (ap ticks_by q) (follow w h k r b f (t ∙ e))
-follow w (writes {c = c} {v = v} {st = st} h) k r b f e =
+follow w (still {c = c} {e = x} {st = st} q t h) k r b e =
+    past w c x st k (ap ticks_by q) (follow w h k r b (t ∙ e))
+follow w (writes {c = c} {v = v} {st = st} h) k r b e =
     past w c (DataWrite (number w) v) st k (write_no_tick w v)
-    (follow w h k r v true
+    (follow w h k r (Some v)
     (write_side w c v
     ∙ ap (λ (y : SenderSide). side (come.filled_with y.sender v) y.heeds) e))
-follow w (ticking {c = c} {st = st} z h) (suc j) r b f e =
+follow w (ticking {c = c} {st = st} z h) (suc j) r b e =
     let d = (happens c (Transmit (number w))).chip in
-    let x = shared b f false ones in
-    let was : sender_of w c ≡ cut_off (suc j) r b f = ap (λ (y : SenderSide). y.sender) e in
+    let x = shared b false ones in
+    let was : sender_of w c ≡ cut_off (suc j) r b = ap (λ (y : SenderSide). y.sender) e in
     let heeds = ap (λ (y : SenderSide). y.heeds) e in
     let t : ticked_of w c ≡ sent_bit true (Abort j) not_counted x =
     ap (tick_sdlc come.good) was ∙ tick_abort come.good x j r in
-    let y : side_of w d ≡ side (cut_off j 0 b f) good =
+    let y : side_of w d ≡ side (cut_off j 0 b) good =
     tick_side w c heeds ∙ ap (λ (q : Framed). side q.framer good) t in
-    let is : sender_of w d ≡ cut_off j 0 b f = ap (λ (q : SenderSide). q.sender) y in
-    let i = follow w h j 0 b f y in
+    let is : sender_of w d ≡ cut_off j 0 b = ap (λ (q : SenderSide). q.sender) y in
+    let i = follow w h j 0 b y in
     let p =
-    tick_passed w c st (cut_off (suc j) r b f) was
-    ∙ ap (λ (q : Bool). on_more q (passed w d st)) (none_passes false f false (λ l. refl)) in
-    let l = tick_loaded w c st (cut_off (suc j) r b f) (cut_off j 0 b f) was is
-    ∙ ap (λ (q : List ℕ). q ++ loaded w d st) (none_leaves f b) in
+    tick_passed w c st (cut_off (suc j) r b) was
+    ∙ ap (λ (q : Bool). on_more q (passed w d st))
+    (none_passes false (is_some b) false (λ l. refl)) in
+    let l = tick_loaded w c st (cut_off (suc j) r b) (cut_off j 0 b) was is
+    ∙ ap (λ (q : List ℕ). q ++ loaded w d st) (none_leaves (is_some b) (unwrap_or b 0)) in
     record {
       rest = i.rest;
       whole =
@@ -111,10 +112,10 @@ follow w (ticking {c = c} {st = st} z h) (suc j) r b f e =
           (sym (skip_ahead w c (Transmit (number w)) st p l)));
       none = i.none;
     }
-follow w (ticking {c = c} {st = st} z h) zero r b f e =
+follow w (ticking {c = c} {st = st} z h) zero r b e =
     let d = (happens c (Transmit (number w))).chip in
-    let x = shared b f false ones in
-    let was : sender_of w c ≡ cut_off 0 r b f = ap (λ (y : SenderSide). y.sender) e in
+    let x = shared b false ones in
+    let was : sender_of w c ≡ cut_off 0 r b = ap (λ (y : SenderSide). y.sender) e in
     let heeds = ap (λ (y : SenderSide). y.heeds) e in
     let t : ticked_of w c ≡ sent_bit false (Flag 7) not_counted x =
     ap (tick_sdlc come.good) was ∙ tick_chooses come.good r x (Abort 0) refl
@@ -123,13 +124,14 @@ follow w (ticking {c = c} {st = st} z h) zero r b f e =
     let y : side_of w d ≡ side flag good =
     tick_side w c heeds ∙ ap (λ (q : Framed). side q.framer good) t in
     let is : sender_of w d ≡ flag = ap (λ (q : SenderSide). q.sender) y in
-    let i = kept w h flag y (opening 7 b f ones) in
+    let i = kept w h flag y (opening 7 b ones) in
     let p =
-    tick_passed w c st (cut_off 0 r b f) was
-    ∙ ap (λ (q : Bool). on_more q (passed w d st)) (none_passes false f false (λ l. refl)) in
+    tick_passed w c st (cut_off 0 r b) was
+    ∙ ap (λ (q : Bool). on_more q (passed w d st))
+    (none_passes false (is_some b) false (λ l. refl)) in
     let l =
-    tick_loaded w c st (cut_off 0 r b f) flag was is
-    ∙ ap (λ (q : List ℕ). q ++ loaded w d st) (none_leaves f b) in
+    tick_loaded w c st (cut_off 0 r b) flag was is
+    ∙ ap (λ (q : List ℕ). q ++ loaded w d st) (none_leaves (is_some b) (unwrap_or b 0)) in
     let more = ahead i.last 0 [] in
     record {
       rest = more;
@@ -146,11 +148,11 @@ follow w (ticking {c = c} {st = st} z h) zero r b f e =
     }
 
 -- a chip whose abort has k ones left, with the check preset and the latch cleared
-pub followed : (w : Which) (c : Chip) (k r b : ℕ) (f : Bool) (ys : List Event)
-    → side_of w c ≡ side (cut_off k r b f) good
+pub followed : (w : Which) (c : Chip) (k r : ℕ) (b : Option ℕ) (ys : List Event)
+    → side_of w c ≡ side (cut_off k r b) good
     → Host w c ys → Followed w c k ys
-followed w c k r b f ys e h =
-    let i = follow w h k r b f e in
+followed w c k r b ys e h =
+    let i = follow w h k r b e in
     record {
       begun =
           sym (take_at (line_of w c ys) i.rest (ticks w ys) (line_length w c ys))
@@ -178,8 +180,8 @@ after_abort w c p xs ys v k q h =
     let g : heeded (sending_in (chan w n)) ≡ good =
     ap heeded (y.settings ∙ x.settings) ∙ a.2 ∙ o.heeds in
     let set : framer_of (latch_cleared preset)
-    ≡ cut_off 8 was.insertion.run was.shared.buffer was.shared.full =
+    ≡ cut_off 8 was.insertion.run was.shared.buffer =
     λ i. framer (a.0 i) (insertion was.insertion.run (a.1 i))
-    (shared was.shared.buffer was.shared.full false (preset_for (mode i))) in
-    followed w n 8 was.insertion.run was.shared.buffer was.shared.full ys
+    (shared was.shared.buffer false (preset_for (mode i))) in
+    followed w n 8 was.insertion.run was.shared.buffer ys
     (λ i. side ((ap framer_of s ∙ set) i) (g i)) h

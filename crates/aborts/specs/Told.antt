@@ -1,6 +1,6 @@
 -- What a receiver tells, whatever its queue: no more ends are read or wait than waited before and
 -- are handed over. A queue that overflows loses entries and makes none. Assumes nothing.
-use Rattle.std.specs.Prelude.{◌≡◌, refl, Bool, true, false, List, [], ◌∷◌, ◌++◌, ℕ, zero, suc, ◌+◌, ◌-◌, ◌≤◌, eqb, ltb, take, set, get_or}
+use Rattle.std.specs.Prelude.{Option, Some, None, option_to_list, ◌≡◌, refl, Bool, false, List, [], ◌∷◌, ◌++◌, ℕ, zero, suc, ◌+◌, ◌-◌, ◌≤◌, eqb, ltb, take, set, get_or}
 use Rattle.std.proofs.Common.{sym, ap, ◌∙◌, subst, arith, ne_eqb}
 use Rattle.std.proofs.Math.Dec.{eqb-suc-zero}
 use Rattle.common.specs.Tools.{by_test}
@@ -11,6 +11,7 @@ use Rattle.queue.specs.declared.Queue.{Queue}
 use Rattle.queue.specs.Queue.{room, newest, queue, moved_up, pushed, taken, oldest, waits}
 use Rattle.queue.specs.Holding.{entry_if}
 use Rattle.sdlc.specs.Hearing.{hear_sdlc}
+use Rattle.channel.specs.Events.{queued}
 use Rattle.chip.specs.declared.Chip.{Chip}
 use Rattle.chip.specs.Event.{Event}
 use Rattle.whole.specs.Heard.{handed, hear_all, end_marks}
@@ -19,7 +20,7 @@ use Rattle.stories.specs.Story.{Which, chan, happens, after}
 use Rattle.stories.specs.Received.{ToReceiver, Hears, Reads, Else, to_receiver, bit_in, bits_of}
 use Rattle.stories.specs.Received.{taking, took_of}
 use Rattle.history.specs.Receiving.Side.{Side, side_of}
-use Rattle.history.specs.Receiving.Events.{queued_if, heard_side, read_side, Follows, Hearing, follows}
+use Rattle.history.specs.Receiving.Events.{heard_side, read_side, Follows, Hearing, follows}
 use Rattle.history.specs.Receiving.Stories.{over, hears, reads, still}
 use Rattle.aborts.specs.Statement.{waiting_in, Attends, ends_told}
 
@@ -51,10 +52,10 @@ push_marks q e =
     rw n (put_marks q.count q.entries e))
     (λ l. set_marks q.count newest q.entries (overran e)))
 
-queued_marks : (some : Bool) (q : Queue) (x : Entry)
-    → marks (queued_if some q x) ≤ marks q + end_marks (entry_if some x)
-queued_marks true q x = omega (arith, push_marks q x)
-queued_marks false q x = omega arith
+queued_marks : (q : Queue) (x : Option Entry)
+    → marks (queued q x) ≤ marks q + end_marks (option_to_list x)
+queued_marks q (Some x) = omega (arith, push_marks q x)
+queued_marks q None = omega arith
 
 take_none : (n : ℕ) → take {A = Entry} n [] ≡ []
 take_none zero = refl
@@ -106,7 +107,7 @@ hear_bound x b bits =
     let h = hear_sdlc x.settings.addressing x.listener b in
     omega (
       arith,
-      queued_marks h.some x.queue h.entry,
+      queued_marks x.queue h.entry,
       end_marks_join (handed h) (hear_all x.settings.addressing h.listener bits).got,
     )
 

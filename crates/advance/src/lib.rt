@@ -1,19 +1,13 @@
 // The check register's advance over zero bytes, by halves: a multiplication modulo the polynomial. Assumes nothing.
 #![tactic(auto)]
 
-ghost use Rattle.std.specs.Prelude.{◌≡◌, if◌then◌else◌};
+ghost use Rattle.std.specs.Prelude.{◌≡◌};
 ghost use Rattle.advance.specs.Advance.{product, advanced};
 
 use line::{check_byte, check_step};
 
-// A power, or nothing.
-fn power_if(b: bool, power: u16) -> u16
-    ensures { result ≡ (if b then power else 0) }
-{
-    if b { power } else { 0 }
-}
-
-// a times b modulo the polynomial p: one step by 0 for each place of b up to its highest.
+// a times b modulo the polynomial p: one step by 0 for each place of b up to its highest. No `for` over all sixteen: every second product
+// that `advance` asks for, below its first call, has b = 1.
 fn product(p: u16, a: u16, b: u16) -> u16
     ensures { result ≡ product p a b }
 {
@@ -21,9 +15,11 @@ fn product(p: u16, a: u16, b: u16) -> u16
     let mut power = a;
     let mut rest = b;
     while 0 < rest {
-        sum = sum ^ power_if(rest % 2 == 1, power);
+        if rest % 2 == 1 {
+            sum ^= power;
+        }
         power = check_step(p, power, false);
-        rest = rest / 2;
+        rest /= 2;
     }
     sum
 }

@@ -2,6 +2,7 @@
 -- the one line, and names are brought for it, by pub use, which rt tidy leaves; other wrong chips
 -- stand in Wrong. Assumes nothing.
 pub use Rattle.std.specs.Prelude.{◌&&◌, ◌%◌, if◌then◌else◌}
+pub use Rattle.std.specs.Option.{option_map}
 pub use Rattle.interrupts.specs.Interrupts.{no_six}
 pub use Rattle.status.specs.Status.{status}
 pub use Rattle.settings.specs.Settings.{store2}

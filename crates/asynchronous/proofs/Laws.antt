@@ -1,23 +1,15 @@
 -- The definitions as the code meets them: a character's bits as one number. Assumes nothing.
-use Prim.Native.Nat.{ℕ, zero, suc, ◌+◌, ◌*◌, ◌/◌, ◌%◌, ◌^◌, ◌≤◌}
-use mathlib.Core.Path.{◌≡◌, refl, sym, ap, ap₂, ◌∙◌}
-use mathlib.Core.Bool.{Bool, true, false}
-use mathlib.Core.List.{List, ◌∷◌, ◌++◌}
-use native.Mathlib.Omega.{arith}
-use native.Mathlib.Nat.{mul_assoc, pow-suc, zero-lt-suc}
-use lib.Arith.{mod-mul}
-use lib.Pow.{pow_pos}
-use lib.Dec.{eqb}
-use lib.ListN.{length, length-append}
-use mir.Val.{bool_byte}
-use Rattle.common.specs.Tools.{if_elim}
-use Rattle.line.specs.Bits.{one_if, low_bits}
+use Rattle.std.specs.Prelude.{◌≡◌, Bool, true, false, List, ◌∷◌, ◌++◌, ℕ, zero, suc, ◌+◌, ◌*◌, ◌/◌, ◌%◌, ◌^◌, length}
+use Rattle.std.proofs.Common.{sym, ap, ◌∙◌, arith, length-append, mul_assoc, pow-suc}
+use Rattle.std.proofs.Math.Arith.{mod-mul}
+use Rattle.std.proofs.Math.Nat.{zero-lt-suc}
+use Rattle.std.proofs.Math.Path.{ap₂}
+use Rattle.std.proofs.lemmas.Nat.{pow_pos}
+use Rattle.line.specs.Bits.{one_if, low_bits, from_low}
 use Rattle.line.specs.Laws.Bits.{low_bits_length, odd_is}
-use Rattle.line.specs.Bits.{from_low}
 use Rattle.asynchronous.specs.declared.Typing.{Typing}
 use Rattle.shapes.specs.Sent.{bits_sent, sent_bits, parity_bit}
-use Rattle.asynchronous.specs.Sending.{stop_bits}
-use Rattle.asynchronous.specs.Sending.{character, character_of}
+use Rattle.asynchronous.specs.Sending.{stop_bits, character, character_of}
 
 -- what stands above the low n bits of v
 pub from_low_above : (n v : ℕ) (xs : List Bool) → from_low (low_bits n v ++ xs) ≡ from_low xs * 2 ^ n + v % 2 ^ n
@@ -30,33 +22,20 @@ from_low_above (suc n) v xs =
     ap (λ (x : ℕ). from_low xs * x) (pow-suc 2 n) ∙ sym (mul_assoc (from_low xs) (2 ^ n) 2) in
     ap₂ (λ (x y : ℕ). x * 2 + y) (from_low_above n (v / 2) xs) (odd_is v) ∙ omega (arith, low, high)
 
--- the stop bits as a number
-pub ones_most : (n : ℕ) → from_low (stop_bits n) ≤ 3
-unfolding stop_bits from_low
-ones_most n = if_elim (λ (x : List Bool). from_low x ≤ 3) (eqb n 2) (omega arith) (omega arith)
-
-pub bit_most : (b : Bool) → bool_byte b ≤ 1
-bit_most true = omega arith
-bit_most false = omega arith
-
-bit_is : (b : Bool) → bool_byte b ≡ one_if b
-bit_is true = refl
-bit_is false = refl
-
 -- a character, with and without parity, as the code puts it together
 pub with_parity_lem : (g : Typing) (v : ℕ) → g.format.parity ≡ true
     → let n = bits_sent g.format.length v in
     let p = parity_bit g.format.even (sent_bits g.format.length v) in
     let s = stop_bits g.stops in
-    character (n + 1 + length s) ((from_low s * 2 + bool_byte p) * 2 ^ n + v % 2 ^ n) ≡ character_of g v
+    character (n + 1 + length s) ((from_low s * 2 + one_if p) * 2 ^ n + v % 2 ^ n) ≡ character_of g v
 with_parity_lem g v e =
     let n = bits_sent g.format.length v in
     let p = parity_bit g.format.even (low_bits n v) in
     let s = stop_bits g.stops in
     let count : n + 1 + length s ≡ length (low_bits n v ++ (p ∷ s)) =
     omega (arith, length-append (low_bits n v) (p ∷ s), low_bits_length n v) in
-    let number : (from_low s * 2 + bool_byte p) * 2 ^ n + v % 2 ^ n ≡ from_low (low_bits n v ++ (p ∷ s)) =
-    rw (bit_is p) (sym (unfold from_low in from_low_above n v (p ∷ s))) in
+    let number : (from_low s * 2 + one_if p) * 2 ^ n + v % 2 ^ n ≡ from_low (low_bits n v ++ (p ∷ s)) =
+    sym (unfold from_low in from_low_above n v (p ∷ s)) in
     rw e (ap₂ character count number)
 
 pub without_parity : (g : Typing) (v : ℕ) → g.format.parity ≡ false

@@ -1,11 +1,11 @@
 -- 01, Receiving: the paragraph on asynchronous characters, a bit at a time. Every assembly is
 -- accepted, also one that no history made. Assumes nothing.
-use Rattle.std.specs.Prelude.{Bool, true, false, not, ◌&&◌, ◌||◌, ℕ, ◌+◌, ◌-◌, ◌*◌, ◌%◌, eqb, if◌then◌else◌}
+use Rattle.std.specs.Prelude.{Option, Some, None, Bool, true, false, not, ◌&&◌, ◌||◌, ℕ, ◌+◌, ◌-◌, ◌*◌, ◌%◌, eqb, if◌then◌else◌}
 use Rattle.std.specs.Bool.{beq}
 use Rattle.std.specs.Int.Bits.{bit_xor}
 use Rattle.line.specs.Bits.{one_if}
 use Rattle.line.specs.Check.{differs}
-use Rattle.entry.specs.Entry.{no_entry}
+use Rattle.shapes.specs.Sent.{size}
 use Rattle.entry.specs.Entry.{received}
 use Rattle.entry.specs.declared.Entry.{Entry}
 use Rattle.asynchronous.specs.declared.Format.{Format}
@@ -26,15 +26,11 @@ no_assembly w = record {
 }
 
 -- what a tick gives: the character, D7, and an entry for the queue or none
-abbrev pub assembled : Assembly → Bool → Bool → Entry → Assembled
-assembled a x t e = record { assembly = a; broken = x; some = t; entry = e }
+abbrev pub assembled : Assembly → Bool → Option Entry → Assembled
+assembled a x e = record { assembly = a; broken = x; entry = e }
 
 abbrev pub in_silence : Assembly → Bool → Assembled
-in_silence a x = assembled a x false no_entry
-
--- five, six, seven or eight data bits; a length that is none of these counts as eight
-unfoldable pub size : ℕ → ℕ
-size n = if eqb n 5 then 5 else (if eqb n 6 then 6 else (if eqb n 7 then 7 else 8))
+in_silence a x = assembled a x None
 
 -- "0 starts a character as set on that tick": data, parity and one stop bit are to come. "Unused
 -- high bits read 1": all bits are ones until a 0 comes for one of them
@@ -77,7 +73,7 @@ finished a stop =
 -- start; if data and parity were 0 too, D7 sets until that 1"
 abbrev pub stopped : Assembly → Bool → Bool → Assembled
 stopped a x stop =
-    assembled (no_assembly (not stop)) (x || (a.blank && not stop)) true (finished a stop)
+    assembled (no_assembly (not stop)) (x || (a.blank && not stop)) (Some (finished a stop))
 
 -- "until that 1", which is no start
 abbrev pub released : Assembly → Assembly

@@ -1,13 +1,15 @@
 -- 01, Sending: "Asynchronous: start 0, the low bits, parity, stop ones." What goes out of one byte
--- behind its start bit, and a transmit tick. A number of stop bits other than two counts as one.
+-- behind its start bit, and a transmit tick.
 -- Assumes nothing.
 use Rattle.std.specs.Prelude.{Bool, true, false, not, ◌&&◌, List, [], ◌∷◌, ◌++◌, ℕ, ◌-◌, ◌/◌, eqb, length, if◌then◌else◌}
 use Rattle.line.specs.Bits.{odd}
 use Rattle.line.specs.Bits.{from_low}
 use Rattle.shapes.specs.Sent.{sent_bits, parity_bit}
 use Rattle.shared.specs.declared.Shared.{Shared}
-use Rattle.shared.specs.Shared.{emptied}
+use Rattle.shared.specs.Shared.{full, waiting_byte, emptied}
 use Rattle.asynchronous.specs.declared.Format.{Format}
+use Rattle.asynchronous.specs.declared.Stops.{Stops}
+use Rattle.asynchronous.specs.declared.Stops.TheVariants.{One, Two}
 use Rattle.asynchronous.specs.declared.Typing.{Typing}
 use Rattle.asynchronous.specs.declared.Character.{Character}
 use Rattle.asynchronous.specs.declared.Typed.{Typed}
@@ -18,8 +20,9 @@ abbrev pub parity_bits : Format → List Bool → List Bool
 parity_bits f bs = if f.parity then parity_bit f.even bs ∷ [] else []
 
 -- 01, Registers: "stop bits 01 one, 11 two"
-unfoldable pub stop_bits : ℕ → List Bool
-stop_bits n = if eqb n 2 then true ∷ true ∷ [] else true ∷ []
+unfoldable pub stop_bits : Stops → List Bool
+stop_bits One = true ∷ []
+stop_bits Two = true ∷ true ∷ []
 
 -- "the low bits, parity, stop ones"
 abbrev pub character_bits : Typing → ℕ → List Bool
@@ -50,11 +53,12 @@ typed b l c k = record { bit = b; loaded = l; character = c; shared = k }
 
 -- "A character is loaded on the tick of its start bit, if on, the buffer is full and none is under
 -- way, and is then finished as set on that tick; otherwise the tick sends 1."
-abbrev pub start_character : Typing → Shared → Typed
-start_character g k = typed false true (character_of g k.buffer) (emptied k)
+abbrev pub start_character : Typing → ℕ → Shared → Typed
+start_character g v k = typed false true (character_of g v) (emptied k)
 
 abbrev pub idling : Typing → Character → Shared → Typed
-idling g c k = if g.on && k.full then start_character g k else typed true false c k
+idling g c k =
+    if g.on && full k then start_character g (waiting_byte k) k else typed true false c k
 
 unfoldable pub tick_character : Typing → Character → Shared → Typed
 tick_character g c k =

@@ -9,14 +9,22 @@ ghost use Rattle.asynchronous.specs.Sending.{no_character, under_way};
 ghost use Rattle.asynchronous.specs.Hearing.{no_assembly};
 
 use entry::Entry;
+use shapes::Length;
 use shared::Shared;
 
-// A character's data bits, five to eight (anything else is eight), and its parity.
+// A character's data bits, and its parity.
 #[derive(Clone, Copy)]
 pub struct Format {
-    pub length: u8,
+    pub length: Length,
     pub parity: bool,
     pub even: bool,
+}
+
+// The stop bits of a character that is sent.
+#[derive(Clone, Copy, PartialEq, Eq)]
+pub enum Stops {
+    One = 1,
+    Two = 2,
 }
 
 // What registers and CTS say of sending. on: WR5 D3 and, with auto enables, CTS.
@@ -24,7 +32,7 @@ pub struct Format {
 pub struct Typing {
     pub on: bool,
     pub format: Format,
-    pub stops: u8,
+    pub stops: Stops,
 }
 
 // The character on the line, behind its start bit: so many bits are left to send (0: none is under way), and these, the first lowest.
@@ -58,13 +66,12 @@ pub struct Assembly {
     pub even: bool,
 }
 
-// What a receive tick gives: the character, RR0 D7, and an entry for the queue, if some.
+// What a receive tick gives: the character, RR0 D7, and what goes into the queue.
 #[derive(Clone, Copy)]
 pub struct Assembled {
     pub assembly: Assembly,
     pub broken: bool,
-    pub some: bool,
-    pub entry: Entry,
+    pub entry: Option<Entry>,
 }
 
 impl Character {

@@ -3,66 +3,53 @@ ghost use Rattle.std.specs.Prelude.{◌≡◌, ◌+◌, ◌*◌, ◌%◌, ◌^�
 ghost use Rattle.line.specs.Bits.{from_low};
 ghost use Rattle.asynchronous.specs.Sending.{stop_bits, character_of, idling, tick_character};
 
-use crate::{Character, Typed, Typing};
+use crate::{Character, Stops, Typed, Typing};
 use shapes::{bits_sent, parity_bit};
 use shared::Shared;
 
-// The number of stop bits.
-fn stop_count(stops: u8) -> u8
-    ensures { result ≡ length (stop_bits stops) }
-{
-    if stops == 2 { 2 } else { 1 }
-}
+impl Stops {
+    // How many they are.
+    #[tactic(auto, unfolding(crate::specs::Sending::stop_bits))]
+    fn count(self) -> u8
+        ensures value { result ≡ length (stop_bits self) }
+        ensures upper_bound { result ≤ 2 }
+    {
+        self as u8
+    }
 
-// The stop bits themselves, as a number.
-fn stop_ones(stops: u8) -> u8
-    ensures { result ≡ from_low (stop_bits stops) }
-{
-    if stops == 2 { 3 } else { 1 }
+    // The stop bits themselves, as a number.
+    #[tactic(auto, unfolding(crate::specs::Sending::stop_bits, line::specs::Bits::from_low))]
+    fn ones(self) -> u8
+        ensures value { result ≡ from_low (stop_bits self) }
+        ensures upper_bound { result ≤ 3 }
+    {
+        match self {
+            Stops::One => 0b1,
+            Stops::Two => 0b11,
+        }
+    }
 }
 
 // The bits of t above the low n bits of v.
 fn above(n: u8, v: u8, t: u8) -> u16
-    requires le_n { 1 ≤ n }
-    requires n_bound { n ≤ 8 }
+    requires { n ≤ 8 }
     ensures { result ≡ t * 2 ^ n + v % 2 ^ n }
 {
-    let low = v as u16;
-    let high = t as u16;
-    if n == 1 {
-        return high * 2 + low % 2;
-    }
-    if n == 2 {
-        return high * 4 + low % 4;
-    }
-    if n == 3 {
-        return high * 8 + low % 8;
-    }
-    if n == 4 {
-        return high * 16 + low % 16;
-    }
-    if n == 5 {
-        return high * 32 + low % 32;
-    }
-    if n == 6 {
-        return high * 64 + low % 64;
-    }
-    if n == 7 {
-        return high * 128 + low % 128;
-    }
-    high * 256 + low % 256
+    let weight = 1u16 << n;
+    u16::from(t) * weight + u16::from(v) % weight
 }
 
 impl Typing {
     // The low bits of v, parity and stop ones, to be sent.
+    #[tactic(auto, using(crate::proofs::Laws::with_parity_lem, crate::proofs::Laws::without_parity))]
     fn character(self, v: u8) -> Character
         ensures { result ≡ character_of self v }
     {
         let n = bits_sent(self.format.length, v);
-        let count = stop_count(self.stops);
-        let ones = stop_ones(self.stops);
+        let count = self.stops.count();
+        let ones = self.stops.ones();
         if self.format.parity {
-            let p = parity_bit(self.format.even, self.format.length, v) as u8;
+            let p = u8::from(parity_bit(self.format.even, self.format.length, v));
             return Character {
                 left: n + 1 + count,
                 bits: above(n, v, ones * 2 + p),
@@ -78,13 +65,15 @@ impl Typing {
     fn idling(self, c: Character, k: Shared) -> Typed
         ensures { result ≡ idling self c k }
     {
-        if self.on & k.full {
-            return Typed {
-                bit: false,
-                loaded: true,
-                character: self.character(k.buffer),
-                shared: k.emptied(),
-            };
+        if self.on {
+            if let Some(v) = k.buffer {
+                return Typed {
+                    bit: false,
+                    loaded: true,
+                    character: self.character(v),
+                    shared: k.emptied(),
+                };
+            }
         }
         Typed {
             bit: true,
@@ -95,6 +84,7 @@ impl Typing {
     }
 
     // One transmit tick.
+    #[tactic(auto, unfolding(crate::specs::Sending::tick_character))]
     pub fn tick(self, c: Character, k: Shared) -> Typed
         ensures { result ≡ tick_character self c k }
     {

@@ -1,5 +1,5 @@
 -- Receiving a character at a time, and the characters of a block. Assumes nothing.
-use Rattle.std.specs.Prelude.{◌≡◌, Bool, true, false, not, ◌&&◌, List, [], ◌∷◌, ◌++◌, ℕ, zero, suc, ◌+◌, ◌<◌, length, replicate, if◌then◌else◌}
+use Rattle.std.specs.Prelude.{Option, Some, None, option_to_list, ◌≡◌, Bool, true, false, not, ◌&&◌, List, [], ◌∷◌, ◌++◌, ℕ, zero, suc, ◌+◌, ◌<◌, length, replicate, if◌then◌else◌}
 use Rattle.line.specs.Bits.{low_bits, text_bits, Below}
 use Rattle.bytesync.specs.declared.Syncs.{Syncs}
 use Rattle.bytesync.specs.declared.Matching.{Matching}
@@ -27,14 +27,14 @@ pub data Brings : List Character → List Moment → Type 0 where
 unfoldable pub kept : Matching → Bool → Bool → List Character → List ℕ
 kept g l t [] = []
 kept g l t (c ∷ cs) =
-    let s = leads g.syncs (block l t false 0) c.byte in
+    let s = leads g.syncs (block l t None) c.byte in
     (if not (s && g.strip) then c.byte ∷ [] else []) ++ kept g s (not t) cs
 
 -- "A character enters the receive check when the next one has been assembled, if WR3 D3 is set at
 -- that moment": what enters, by the one that waits, if there is one
-unfoldable pub entrants : Bool → ℕ → List Character → List ℕ
-entrants h x [] = []
-entrants h x (c ∷ cs) = (if c.lets && h then x ∷ [] else []) ++ entrants true c.byte cs
+unfoldable pub entrants : Option ℕ → List Character → List ℕ
+entrants h [] = []
+entrants h (c ∷ cs) = (if c.lets then option_to_list h else []) ++ entrants (Some c.byte) cs
 
 -- the bits of ticks, and WR3 D3 on each eighth, the first of them behind n more
 unfoldable pub bits_of : List Moment → List Bool

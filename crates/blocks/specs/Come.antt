@@ -3,11 +3,11 @@
 -- is written in time: `rest` are the bytes of the block, `tail` those that go straight behind its
 -- check. The laws (proofs/Laws/Come): a tick in time takes the first of these bits (`takes`), a write into
 -- the empty buffer changes none of them (`moves`, `moves_behind`). Assumes nothing.
-use Rattle.std.specs.Prelude.{◌≡◌, Bool, true, false, not, ◌||◌, List, [], ◌∷◌, ◌++◌, ℕ, suc, ◌-◌, ◌/◌, ◌^◌, ◌<◌, eqb, take, if◌then◌else◌}
+use Rattle.std.specs.Prelude.{◌≡◌, Option, None, Bool, true, false, not, ◌||◌, List, [], ◌∷◌, ◌++◌, ℕ, suc, ◌-◌, ◌/◌, ◌^◌, ◌<◌, eqb, take, if◌then◌else◌}
 use Rattle.line.specs.Bits.{low_bits, text_bits}
 use Rattle.line.specs.Check.{top_bits}
 use Rattle.shared.specs.declared.Shared.{Shared}
-use Rattle.shared.specs.Shared.{shared, filled, cleared, check_set}
+use Rattle.shared.specs.Shared.{shared, full, filled, cleared, check_set}
 use Rattle.bytesync.specs.declared.Syncs.{Syncs}
 use Rattle.bytesync.specs.declared.BlockUnit.{BlockUnit}
 use Rattle.bytesync.specs.declared.BlockUnit.TheVariants.{Mark, Sync, Byte, Check}
@@ -15,7 +15,7 @@ use Rattle.bytesync.specs.declared.Syncing.{Syncing}
 use Rattle.bytesync.specs.Sending.{sync_sent, tick_block}
 use Rattle.shared.specs.Preset.{zeros}
 use Rattle.whole.specs.Come.{waiting}
-use Rattle.whole.specs.Stage.{Some}
+use Rattle.whole.specs.Stage.{Remains}
 use Rattle.blocks.specs.Check.{check_from}
 
 -- the sender on, the check included; WR6 is a byte
@@ -82,21 +82,21 @@ timely full u (v ∷ rest) = full || not (chooses u)
 
 abbrev pub in_time : Sends → List ℕ → List ℕ → Bool
 in_time s rest tail =
-    timely s.shared.full s.unit (if s.shared.latch then tail else rest)
+    timely (full s.shared) s.unit (if s.shared.latch then tail else rest)
 
 -- A block's stages, with `rest` and `tail` still to write
 pub data Stage : Sends → List ℕ → List ℕ → Type 0 where
-  at_mark : (b : ℕ) (f : Bool) (c : ℕ) (rest tail : List ℕ) → Some f rest
-      → Stage (sends Mark (shared b f false c)) rest tail
-  opening : (n v b : ℕ) (f : Bool) (c : ℕ) (rest tail : List ℕ) → Some f rest
-      → Stage (sends (Sync n v) (shared b f false c)) rest tail
-  in_byte : (n v b : ℕ) (f : Bool) (c : ℕ) (rest tail : List ℕ)
-      → Stage (sends (Byte n v) (shared b f false c)) rest tail
-  in_check : (n v b : ℕ) (f : Bool) (c : ℕ) (tail : List ℕ)
-      → Stage (sends (Check n v) (shared b f true c)) [] tail
-  in_tail : (n v b : ℕ) (f : Bool) (c : ℕ) (tail : List ℕ)
-      → Stage (sends (Byte n v) (shared b f true c)) [] tail
-  closing : (n v b c : ℕ) → Stage (sends (Sync n v) (shared b false true c)) [] []
+  at_mark : (b : Option ℕ) (c : ℕ) (rest tail : List ℕ) → Remains b rest
+      → Stage (sends Mark (shared b false c)) rest tail
+  opening : (n v : ℕ) (b : Option ℕ) (c : ℕ) (rest tail : List ℕ) → Remains b rest
+      → Stage (sends (Sync n v) (shared b false c)) rest tail
+  in_byte : (n v : ℕ) (b : Option ℕ) (c : ℕ) (rest tail : List ℕ)
+      → Stage (sends (Byte n v) (shared b false c)) rest tail
+  in_check : (n v : ℕ) (b : Option ℕ) (c : ℕ) (tail : List ℕ)
+      → Stage (sends (Check n v) (shared b true c)) [] tail
+  in_tail : (n v : ℕ) (b : Option ℕ) (c : ℕ) (tail : List ℕ)
+      → Stage (sends (Byte n v) (shared b true c)) [] tail
+  closing : (n v c : ℕ) → Stage (sends (Sync n v) (shared None true c)) [] []
 
 -- The host's story: ticks and data writes; its line, how many ticks it has, and the sender behind
 -- it
@@ -130,11 +130,11 @@ pub data InTime (g : Syncing) (left more : List ℕ) : Sends → List ℕ → Li
   ticking : {s : Sends} {rest tail : List ℕ} {acts : List Act} → in_time s rest tail ≡ true
       → InTime g left more (ticked g s) rest tail acts
       → InTime g left more s rest tail (Tick ∷ acts)
-  writing : {s : Sends} {v : ℕ} {rest tail : List ℕ} {acts : List Act} → s.shared.full ≡ false
+  writing : {s : Sends} {v : ℕ} {rest tail : List ℕ} {acts : List Act} → full s.shared ≡ false
       → InTime g left more (filled_with s v) rest tail acts
       → InTime g left more s (v ∷ rest) tail (Write v ∷ acts)
   writing_behind : {s : Sends} {v : ℕ} {rest tail : List ℕ} {acts : List Act}
-      → s.shared.latch ≡ true → s.shared.full ≡ false
+      → s.shared.latch ≡ true → full s.shared ≡ false
       → InTime g left more (filled_with s v) rest tail acts
       → InTime g left more s rest (v ∷ tail) (Write v ∷ acts)
 
@@ -146,9 +146,8 @@ sync_length y = if y.both then 16 else 8
 abbrev pub sync_unit : Syncs → ℕ → BlockUnit
 sync_unit y p = Sync (sync_length y - p) (sync_sent y / 2 ^ p)
 
--- the buffer's old byte is b
-abbrev pub started : Syncs → ℕ → ℕ → Sends
-started y p b = sends (sync_unit y p) (shared b false false zeros)
+abbrev pub started : Syncs → ℕ → Sends
+started y p = sends (sync_unit y p) (shared None false zeros)
 
 -- the bits of that sync that are sent
 abbrev pub sync_head : Syncs → ℕ → List Bool

@@ -1,6 +1,6 @@
 -- Worked cases, computed: the published values of both checks from zero over the digits 1 to 9
 -- (CRC-16/ARC, CRC-16/KERMIT), blocks heard in both modes, and a block sent. Assumes nothing.
-use Rattle.std.specs.Prelude.{◌≡◌, refl, Bool, true, false, List, [], ◌∷◌, ◌++◌, ℕ, replicate}
+use Rattle.std.specs.Prelude.{Some, ◌≡◌, refl, Bool, true, false, List, [], ◌∷◌, ◌++◌, ℕ, replicate, None}
 use Rattle.line.specs.Bits.{low_bits, text_bits, from_low}
 use Rattle.line.specs.Check.{sdlc, check_step, check_over, top_bits}
 use Rattle.shared.specs.Shared.{shared}
@@ -40,7 +40,7 @@ set both strip =
 pub mono_heard : hear_all (set false true) (searching true) zeros
     (ticks_of false (0x16 ∷ 0x16 ∷ 0x16 ∷ 0x41 ∷ []) ++ ticks_of true
     (0x42 ∷ 0xB0 ∷ 0x61 ∷ 0x16 ∷ []))
-    ≡ final (reception_at false (block false true true 0x16)) 0
+    ≡ final (reception_at false (block false true (Some 0x16))) 0
     (entries_of (0x41 ∷ 0x42 ∷ 0xB0 ∷ 0x61 ∷ 0x16 ∷ []))
 unfolding hear_all along low_bits hear_block hunting sync_seen assembling arrived entering check_over
     check_step entries_of
@@ -50,7 +50,7 @@ mono_heard = refl
 -- turn
 pub bisync_heard : hear_all (set true false) (searching true) zeros
     (ticks_of false (0x10 ∷ 0x16 ∷ 0x10 ∷ 0x10 ∷ []))
-    ≡ final (reception_at false (block false false true 0x10)) 0 (entries_of (0x10 ∷ 0x10 ∷ []))
+    ≡ final (reception_at false (block false false (Some 0x10))) 0 (entries_of (0x10 ∷ 0x10 ∷ []))
 unfolding hear_all along low_bits hear_block hunting sync_seen assembling arrived entering check_over
     check_step entries_of
 bisync_heard = refl
@@ -65,7 +65,7 @@ story =
     Write 0x41 ∷ (replicate 16 Tick ++
     (Write 0x42 ∷ (replicate 9 Tick ++ (Write 0xFF ∷ replicate 31 Tick))))
 
-pub mono_sent : acts_line sending (sends Mark (shared 0 false false zeros)) story
+pub mono_sent : acts_line sending (sends Mark (shared None false zeros)) story
     ≡ block_bits sending (0x41 ∷ 0x42 ∷ []) (0xFF ∷ [])
 unfolding acts_line tick_block following closed text_bits low_bits top_bits check_over check_step
 mono_sent = refl

@@ -1,9 +1,8 @@
 -- What a receiver of these modes that stays on hears over a stream of ticks: where it ends, its
 -- check, and what it has handed over. WR3 D3 may change from tick to tick. Assumes nothing.
-use Rattle.std.specs.Prelude.{Bool, false, List, [], ◌∷◌, ◌++◌, ℕ}
+use Rattle.std.specs.Prelude.{option_to_list, Bool, false, List, [], ◌∷◌, ◌++◌, ℕ}
 use Rattle.entry.specs.declared.Entry.{Entry}
 use Rattle.entry.specs.Entry.{plain_entry}
-use Rattle.queue.specs.Holding.{entry_if}
 use Rattle.bytesync.specs.declared.Matching.{Matching}
 use Rattle.bytesync.specs.declared.Reception.{Reception}
 use Rattle.bytesync.specs.declared.Matched.{Matched}
@@ -24,7 +23,7 @@ heeding g i =
 
 -- what a tick hands over: an entry or none
 abbrev pub handed : Matched → List Entry
-handed h = entry_if h.some h.entry
+handed h = option_to_list h.entry
 
 -- the receiver and its check behind a stream, and the entries that it handed over on the way
 pub record Final : Type 0 where

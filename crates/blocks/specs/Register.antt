@@ -1,6 +1,6 @@
 -- 02, P3: the receive check at every moment since its preset. Ticks, each with settings of its own,
 -- and what starts the search again: Enter Hunt, and a tick while off. Assumes nothing.
-use Rattle.std.specs.Prelude.{Bool, true, false, ◌&&◌, List, [], ◌∷◌, ◌++◌, ℕ, ltb, if◌then◌else◌}
+use Rattle.std.specs.Prelude.{Option, Some, None, option_map, option_to_list, Bool, true, List, [], ◌∷◌, ◌++◌, ℕ, ltb, if◌then◌else◌}
 use Rattle.line.specs.Bits.{low_bits}
 use Rattle.line.specs.Check.{check_over}
 use Rattle.bytesync.specs.declared.Matching.{Matching}
@@ -59,12 +59,12 @@ abbrev pub entrant : ℕ → ℕ → Entrant
 entrant p v = record { polynomial = p; byte = v }
 
 -- what waits: a character or none
-unfoldable pub entrants_of : Bool → ℕ → List Tale → List Entrant
-entrants_of h x [] = []
-entrants_of h x (Complete v i p ∷ ts) =
-    (if i && h then entrant p x ∷ [] else []) ++ entrants_of true v ts
-entrants_of h x (Hunt ∷ ts) = entrants_of false 0 ts
-entrants_of h x (Within ∷ ts) = entrants_of h x ts
+unfoldable pub entrants_of : Option ℕ → List Tale → List Entrant
+entrants_of h [] = []
+entrants_of h (Complete v i p ∷ ts) =
+    (if i then option_to_list (option_map (entrant p) h) else []) ++ entrants_of (Some v) ts
+entrants_of h (Hunt ∷ ts) = entrants_of None ts
+entrants_of h (Within ∷ ts) = entrants_of h ts
 
 -- the check over what enters, and all of it over one polynomial
 unfoldable pub check_through : ℕ → List Entrant → ℕ

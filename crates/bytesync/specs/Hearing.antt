@@ -1,9 +1,9 @@
 -- 02, P3: the receiver of Monosync and Bisync, a bit at a time, while it is on. Every receiver and
 -- every setting is accepted, also one that no history made. Assumes nothing.
-use Rattle.std.specs.Prelude.{Bool, true, false, not, ◌&&◌, ℕ, ◌+◌, ◌*◌, ◌/◌, eqb, ltb, leb, if◌then◌else◌}
+use Rattle.std.specs.Prelude.{Option, Some, None, Bool, true, false, not, ◌&&◌, ℕ, ◌+◌, ◌*◌, ◌/◌, eqb, ltb, leb, if◌then◌else◌}
 use Rattle.line.specs.Bits.{one_if, low_bits}
 use Rattle.line.specs.Check.{check_over}
-use Rattle.entry.specs.Entry.{no_entry, plain_entry}
+use Rattle.entry.specs.Entry.{plain_entry}
 use Rattle.entry.specs.declared.Entry.{Entry}
 use Rattle.bytesync.specs.declared.Syncs.{Syncs}
 use Rattle.bytesync.specs.declared.Matching.{Matching}
@@ -18,14 +18,14 @@ abbrev pub matching : Syncs → Bool → Bool → ℕ → Matching
 matching s strip checking p =
     record { syncs = s; strip = strip; checking = checking; polynomial = p }
 
--- behind the match: l, none but syncs has come; t, whose turn it is in Bisync; v waits to enter the
--- check, if h
-abbrev pub block : Bool → Bool → Bool → ℕ → Block
-block l t h v = record { leading = l; turn = t; have = h; held = v }
+-- behind the match: l, none but syncs has come; t, whose turn it is in Bisync; a character waits to
+-- enter the check, or none
+abbrev pub block : Bool → Bool → Option ℕ → Block
+block l t h = record { leading = l; turn = t; held = h }
 
 -- no character has come; l: the sync has
 abbrev pub no_block : Bool → Block
-no_block l = block l false false 0
+no_block l = block l false None
 
 -- s: the last bits, the newest highest; n of them
 abbrev pub reception : Bool → ℕ → ℕ → Block → Reception
@@ -40,11 +40,11 @@ abbrev pub searching : Bool → Reception
 searching h = reception_at h (no_block false)
 
 -- what a tick gives: the receiver, the check, and an entry for the queue or none
-abbrev pub matched : Reception → ℕ → Bool → Entry → Matched
-matched r c t e = record { reception = r; check = c; some = t; entry = e }
+abbrev pub matched : Reception → ℕ → Option Entry → Matched
+matched r c e = record { reception = r; check = c; entry = e }
 
 abbrev pub unmatched : Reception → ℕ → Matched
-unmatched r c = matched r c false no_entry
+unmatched r c = matched r c None
 
 -- Hunt
 
@@ -82,18 +82,22 @@ expected y turn = if y.both && not turn then y.first else y.second
 abbrev pub leads : Syncs → Block → ℕ → Bool
 leads y d v = d.leading && eqb v (expected y d.turn)
 
+-- the check c behind a character that waits, if one does
+abbrev pub check_behind : ℕ → ℕ → Option ℕ → ℕ
+check_behind p c None = c
+check_behind p c (Some v) = check_over p c (low_bits 8 v)
+
 -- "A character enters the receive check when the next one has been assembled, if WR3 D3 is set at
 -- that moment": d is what stood before the next one
 unfoldable pub entering : Matching → Block → ℕ → ℕ
-entering g d c =
-    if g.checking && d.have then check_over g.polynomial c (low_bits 8 d.held) else c
+entering g d c = if g.checking then check_behind g.polynomial c d.held else c
 
 -- a character v is complete: "WR3 D1 keeps leading sync characters out of the queue"
 unfoldable pub arrived : Matching → Block → ℕ → ℕ → Matched
 arrived g d c v =
     let l = leads g.syncs d v in
-    matched (reception_at false (block l (not d.turn) true v)) (entering g d c)
-    (not (l && g.strip)) (plain_entry v false false)
+    matched (reception_at false (block l (not d.turn) (Some v))) (entering g d c)
+    (if l && g.strip then None else Some (plain_entry v false false))
 
 -- "eight bits, no parity": the place of the last
 abbrev pub last_bit : ℕ

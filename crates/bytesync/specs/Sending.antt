@@ -4,7 +4,7 @@
 use Rattle.std.specs.Prelude.{Bool, true, false, not, ◌&&◌, ℕ, ◌-◌, ◌/◌, eqb, if◌then◌else◌}
 use Rattle.line.specs.Bits.{odd}
 use Rattle.line.specs.Check.{top, shifted}
-use Rattle.shared.specs.Shared.{emptied, latched, entered}
+use Rattle.shared.specs.Shared.{full, waiting_byte, emptied, latched, entered}
 use Rattle.shared.specs.declared.Shared.{Shared}
 use Rattle.bytesync.specs.declared.Syncs.{Syncs}
 use Rattle.bytesync.specs.declared.BlockUnit.{BlockUnit}
@@ -40,11 +40,10 @@ start_sync g k =
     let v = sync_sent g.syncs in sent_bit (odd v) (Sync (sync_left g.syncs) (v / 2)) k
 
 -- "A byte enters the check at its load if WR5 D0 is set", over the polynomial that WR5 D2 chooses
--- then. "No zeros are inserted."
-abbrev pub start_byte : Syncing → Shared → Synced
-start_byte g k =
-    let v = k.buffer in
-    synced (odd v) true (Byte 7 (v / 2)) (emptied (entered g.polynomial g.included k))
+-- then. "No zeros are inserted.": v, which waited
+abbrev pub start_byte : Syncing → ℕ → Shared → Synced
+start_byte g v k =
+    synced (odd v) true (Byte 7 (v / 2)) (emptied (entered g.polynomial g.included v k))
 
 -- "not complemented", x^15 first, taken at its first bit; sending it leaves the generator alone
 abbrev pub start_check : Shared → Synced
@@ -52,7 +51,7 @@ start_check k = sent_bit (top k.check) (Check 15 (shifted k.check)) k
 
 -- after a sync or a check: byte if the buffer is full, else sync
 abbrev pub byte_or_sync : Syncing → Shared → Synced
-byte_or_sync g k = if k.full then start_byte g k else start_sync g k
+byte_or_sync g k = if full k then start_byte g (waiting_byte k) k else start_sync g k
 
 -- "At an underrun the sender sends sync characters, before them the check if the latch is clear and
 -- WR5 D0 set, and sets the latch."
@@ -64,7 +63,7 @@ underrun g k =
 unfoldable pub following : Syncing → BlockUnit → Shared → Synced
 following g Mark k = start_sync g k
 following g (Sync n v) k = byte_or_sync g k
-following g (Byte n v) k = if k.full then start_byte g k else underrun g k
+following g (Byte n v) k = if full k then start_byte g (waiting_byte k) k else underrun g k
 following g (Check n v) k = byte_or_sync g k
 
 -- chosen on the tick that sends its first bit: if off, mark; latch and buffer stay

@@ -11,10 +11,7 @@ use line::check_byte;
 pub(crate) fn shift_in(b: bool, s: u16) -> u16
     ensures { result ≡ shift_in b s }
 {
-    if b {
-        return s / 2 + 32768;
-    }
-    s / 2
+    s / 2 + u16::from(b) * 32768
 }
 
 // One bit more since hunt began.
@@ -26,23 +23,26 @@ fn counted(n: u8) -> u8
 
 impl Syncs {
     // The last bits, n of them since hunt began, are the sync.
+    #[tactic(auto, unfolding(crate::specs::Hearing::sync_seen))]
     fn seen(self, n: u8, s: u16) -> bool
         ensures { result ≡ sync_seen self n s }
     {
         if self.both {
             return (16 <= n) & (s == self.pair());
         }
-        (8 <= n) & (s / 256 == self.second as u16)
+        (8 <= n) & (s / 256 == u16::from(self.second))
     }
 
     // The character is the next leading sync.
     fn leads(self, d: Block, v: u8) -> bool
         ensures { result ≡ leads self d v }
     {
-        if self.both & !d.turn {
-            return d.leading & (v == self.first);
-        }
-        d.leading & (v == self.second)
+        let expected = if self.both & !d.turn {
+            self.first
+        } else {
+            self.second
+        };
+        d.leading & (v == expected)
     }
 }
 
@@ -54,88 +54,91 @@ impl Reception {
         Matched {
             reception: self,
             check,
-            some: false,
-            entry: Entry::none(),
+            entry: None,
         }
     }
 }
 
 impl Matching {
     // A bit in hunt.
+    #[tactic(auto, unfolding(crate::specs::Hearing::hunting))]
     fn hunting(self, r: Reception, check: u16, b: bool) -> Matched
         ensures { result ≡ hunting self r check b }
     {
         let s = shift_in(b, r.bits);
         let n = counted(r.count);
-        let y = self.syncs;
-        if y.seen(n, s) {
+        if self.syncs.seen(n, s) {
             return Reception::at(false, Block::none(true)).unmatched(check);
         }
-        let block = r.block;
         let on = Reception {
             hunt: true,
             bits: s,
             count: n,
-            block,
+            ..r
         };
         on.unmatched(check)
     }
 
     // The check when the next character is complete.
+    #[tactic(auto, unfolding(crate::specs::Hearing::entering))]
     fn entering(self, d: Block, check: u16) -> u16
         ensures { result ≡ entering self d check }
     {
-        if self.checking & d.have {
-            return check_byte(self.polynomial, check, d.held);
+        match d.held {
+            Some(v) if self.checking => check_byte(self.polynomial, check, v),
+            _ => check,
         }
-        check
     }
 
     // A character is complete.
+    #[tactic(auto, unfolding(crate::specs::Hearing::arrived))]
     fn arrived(self, d: Block, check: u16, v: u8) -> Matched
         ensures { result ≡ arrived self d check v }
     {
-        let y = self.syncs;
-        let leading = y.leads(d, v);
+        let leading = self.syncs.leads(d, v);
         let block = Block {
             leading,
             turn: !d.turn,
-            have: true,
-            held: v,
+            held: Some(v),
         };
         Matched {
             reception: Reception::at(false, block),
             check: self.entering(d, check),
-            some: !(leading & self.strip),
-            entry: Entry::received(v, false, false, false, false),
+            entry: if leading & self.strip {
+                None
+            } else {
+                Some(Entry::received(v, false, false, false, false))
+            },
         }
     }
 
     // A bit of a character.
+    #[tactic(auto, unfolding(crate::specs::Hearing::assembling))]
     fn assembling(self, r: Reception, check: u16, b: bool) -> Matched
         ensures { result ≡ assembling self r check b }
     {
         let s = shift_in(b, r.bits);
-        let block = r.block;
         if r.count < 7 {
             let on = Reception {
                 hunt: false,
                 bits: s,
                 count: r.count + 1,
-                block,
+                ..r
             };
             return on.unmatched(check);
         }
-        self.arrived(block, check, (s / 256) as u8)
+        self.arrived(r.block, check, (s / 256) as u8)
     }
 
     // One receive tick.
+    #[tactic(auto, unfolding(crate::specs::Hearing::hear_block))]
     pub fn hear(self, r: Reception, check: u16, b: bool) -> Matched
         ensures { result ≡ hear_block self r check b }
     {
         if r.hunt {
-            return self.hunting(r, check, b);
+            self.hunting(r, check, b)
+        } else {
+            self.assembling(r, check, b)
         }
-        self.assembling(r, check, b)
     }
 }

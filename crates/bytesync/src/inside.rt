@@ -1,7 +1,7 @@
 // Most ticks, in a form of their own: while a byte has bits left, neither settings nor buffer have a part in a transmit tick; outside hunt, a
 // bit that ends no character hands nothing over. It is small, so that the calls of a chip hold it in themselves (bench/README.md).
 // Assumes nothing.
-ghost use Rattle.std.specs.Prelude.{◌≡◌, ◌-◌};
+ghost use Rattle.std.specs.Prelude.{◌≡◌};
 ghost use Rattle.bytesync.specs.Within.{byte_left, byte_rest, within, tick_within, count_after, hears_on, moved_on};
 
 use crate::hearing::shift_in;
@@ -13,11 +13,10 @@ impl BlockUnit {
     fn byte_left(self) -> u8
         ensures { result ≡ byte_left self }
     {
-        match self {
-            BlockUnit::Mark => 0,
-            BlockUnit::Sync(_, _) => 0,
-            BlockUnit::Byte(n, _) => n,
-            BlockUnit::Check(_, _) => 0,
+        if let BlockUnit::Byte(n, _) = self {
+            n
+        } else {
+            0
         }
     }
 
@@ -25,23 +24,12 @@ impl BlockUnit {
     fn byte_rest(self) -> u8
         ensures { result ≡ byte_rest self }
     {
-        match self {
-            BlockUnit::Mark => 0,
-            BlockUnit::Sync(_, _) => 0,
-            BlockUnit::Byte(_, v) => v,
-            BlockUnit::Check(_, _) => 0,
+        if let BlockUnit::Byte(_, v) = self {
+            v
+        } else {
+            0
         }
     }
-}
-
-// One less, if there is one.
-pub(crate) fn less_one(n: u8) -> u8
-    ensures { result ≡ n - 1 }
-{
-    if n == 0 {
-        return 0;
-    }
-    n - 1
 }
 
 // A byte has bits left.
@@ -52,29 +40,24 @@ pub fn within(u: BlockUnit) -> bool
 }
 
 // The tick, if so.
+#[tactic(auto, unfolding(crate::specs::Within::tick_within), using(common::specs::Tools::tests))]
 pub fn tick_within(u: BlockUnit, k: Shared) -> Synced
     ensures { result ≡ tick_within u k }
 {
     let v = u.byte_rest();
-    Synced {
-        bit: v % 2 == 1,
-        loaded: false,
-        unit: BlockUnit::Byte(less_one(u.byte_left()), v / 2),
-        shared: k,
-    }
+    let unit = BlockUnit::Byte(u.byte_left().saturating_sub(1), v / 2);
+    Synced::sent(v % 2 == 1, unit, k)
 }
 
 // The bits of a character with one more.
 fn count_after(n: u8) -> u8
     ensures { result ≡ count_after n }
 {
-    if n < 7 {
-        return n + 1;
-    }
-    0
+    if n < 7 { n + 1 } else { 0 }
 }
 
 // The next bit ends no character, and hunt is off.
+#[tactic(auto, unfolding(crate::specs::Within::hears_on))]
 pub fn hears_within(r: Reception) -> bool
     ensures { result ≡ hears_on r }
 {
@@ -82,14 +65,14 @@ pub fn hears_within(r: Reception) -> bool
 }
 
 // What has been heard after it, if so.
+#[tactic(auto, unfolding(crate::specs::Within::moved_on))]
 pub fn hear_within(r: Reception, b: bool) -> Reception
     ensures { result ≡ moved_on r b }
 {
-    let block = r.block;
     Reception {
+        count: count_after(r.count),
         bits: shift_in(b, r.bits),
         hunt: false,
-        count: count_after(r.count),
-        block,
+        ..r
     }
 }

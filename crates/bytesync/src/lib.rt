@@ -62,13 +62,12 @@ pub struct Matching {
     pub polynomial: u16,
 }
 
-// Behind the match. leading: no character but syncs has come; turn: Bisync's next leading sync is WR7; held waits to enter the check, if have.
+// Behind the match. leading: no character but syncs has come; turn: Bisync's next leading sync is WR7; what is held waits to enter the check.
 #[derive(Clone, Copy)]
 pub struct Block {
     pub leading: bool,
     pub turn: bool,
-    pub have: bool,
-    pub held: u8,
+    pub held: Option<u8>,
 }
 
 // hunt: no sync has come yet; the last bits that came, since hunt began or since the last character, the newest highest; count of them, in
@@ -81,13 +80,12 @@ pub struct Reception {
     pub block: Block,
 }
 
-// What a receive tick gives: the receiver, the check, and an entry for the queue, if some.
+// What a receive tick gives: the receiver, the check, and what goes into the queue.
 #[derive(Clone, Copy)]
 pub struct Matched {
     pub reception: Reception,
     pub check: u16,
-    pub some: bool,
-    pub entry: Entry,
+    pub entry: Option<Entry>,
 }
 
 // x^16+x^15+x^2+1.
@@ -112,12 +110,7 @@ impl BlockUnit {
     pub fn sends_check(self) -> bool
         ensures { result ≡ sends_check self }
     {
-        match self {
-            BlockUnit::Mark => false,
-            BlockUnit::Sync(_, _) => false,
-            BlockUnit::Byte(_, _) => false,
-            BlockUnit::Check(_, _) => true,
-        }
+        matches!(self, BlockUnit::Check(_, _))
     }
 }
 
@@ -129,8 +122,7 @@ impl Block {
         Block {
             leading,
             turn: false,
-            have: false,
-            held: 0,
+            held: None,
         }
     }
 }

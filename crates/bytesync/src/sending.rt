@@ -5,7 +5,6 @@ ghost use Rattle.bytesync.specs.Sending.{sent_bit, start_sync, start_byte, start
 ghost use Rattle.bytesync.specs.Sending.{byte_or_sync, underrun, following, tick_block};
 ghost use Rattle.bytesync.specs.Within.{unit_left, going_on};
 
-use crate::inside::less_one;
 use crate::{BlockUnit, Synced, Syncing, Syncs};
 use shared::Shared;
 
@@ -14,13 +13,13 @@ impl Syncs {
     pub(crate) fn pair(self) -> u16
         ensures { result ≡ pair self }
     {
-        self.first as u16 + self.second as u16 * 256
+        u16::from(self.first) + u16::from(self.second) * 256
     }
 }
 
 impl Synced {
     // A bit with which nothing is loaded.
-    fn sent(bit: bool, unit: BlockUnit, shared: Shared) -> Synced
+    pub(crate) fn sent(bit: bool, unit: BlockUnit, shared: Shared) -> Synced
         ensures { result ≡ sent_bit bit unit shared }
     {
         Synced {
@@ -50,20 +49,19 @@ impl Syncing {
             let v = y.pair();
             return Synced::sent(v % 2 == 1, BlockUnit::Sync(15, v / 2), k);
         }
-        let v = y.first as u16;
+        let v = u16::from(y.first);
         Synced::sent(v % 2 == 1, BlockUnit::Sync(7, v / 2), k)
     }
 
-    // The first bit of the byte in the buffer.
-    fn start_byte(self, k: Shared) -> Synced
-        ensures { result ≡ start_byte self k }
+    // The first bit of v, the byte that waited in the buffer.
+    fn start_byte(self, v: u8, k: Shared) -> Synced
+        ensures { result ≡ start_byte self v k }
     {
-        let v = k.buffer;
         Synced {
             bit: v % 2 == 1,
             loaded: true,
             unit: BlockUnit::Byte(7, v / 2),
-            shared: k.entered(self.polynomial, self.included).emptied(),
+            shared: k.entered(v, self.polynomial, self.included).emptied(),
         }
     }
 
@@ -71,10 +69,10 @@ impl Syncing {
     fn byte_or_sync(self, k: Shared) -> Synced
         ensures { result ≡ byte_or_sync self k }
     {
-        if k.full {
-            return self.start_byte(k);
+        match k.buffer {
+            Some(v) => self.start_byte(v, k),
+            None => self.start_sync(k),
         }
-        self.start_sync(k)
     }
 
     // Behind a byte, with none to follow.
@@ -88,23 +86,22 @@ impl Syncing {
     }
 
     // The first bit of the unit behind u, while on.
+    #[tactic(auto, unfolding(crate::specs::Sending::following))]
     fn following(self, u: BlockUnit, k: Shared) -> Synced
         ensures { result ≡ following self u k }
     {
         match u {
             BlockUnit::Mark => self.start_sync(k),
-            BlockUnit::Sync(_, _) => self.byte_or_sync(k),
-            BlockUnit::Byte(_, _) => {
-                if k.full {
-                    return self.start_byte(k);
-                }
-                self.underrun(k)
-            }
-            BlockUnit::Check(_, _) => self.byte_or_sync(k),
+            BlockUnit::Byte(_, _) => match k.buffer {
+                Some(v) => self.start_byte(v, k),
+                None => self.underrun(k),
+            },
+            BlockUnit::Sync(_, _) | BlockUnit::Check(_, _) => self.byte_or_sync(k),
         }
     }
 
     // One transmit tick, u under way.
+    #[tactic(auto, using(crate::specs::Laws::Within::ended, crate::specs::Laws::Within::under_way_lem))]
     pub fn tick(self, u: BlockUnit, k: Shared) -> Synced
         ensures { result ≡ tick_block self u k }
     {
@@ -125,9 +122,7 @@ impl BlockUnit {
     {
         match self {
             BlockUnit::Mark => 0,
-            BlockUnit::Sync(n, _) => n,
-            BlockUnit::Byte(n, _) => n,
-            BlockUnit::Check(n, _) => n,
+            BlockUnit::Sync(n, _) | BlockUnit::Byte(n, _) | BlockUnit::Check(n, _) => n,
         }
     }
 
@@ -138,14 +133,14 @@ impl BlockUnit {
         match self {
             BlockUnit::Mark => Synced::sent(true, BlockUnit::Mark, k),
             BlockUnit::Sync(n, v) => {
-                Synced::sent(v % 2 == 1, BlockUnit::Sync(less_one(n), v / 2), k)
+                Synced::sent(v % 2 == 1, BlockUnit::Sync(n.saturating_sub(1), v / 2), k)
             }
             BlockUnit::Byte(n, v) => {
-                Synced::sent(v % 2 == 1, BlockUnit::Byte(less_one(n), v / 2), k)
+                Synced::sent(v % 2 == 1, BlockUnit::Byte(n.saturating_sub(1), v / 2), k)
             }
             BlockUnit::Check(n, v) => Synced::sent(
                 v / 32768 % 2 == 1,
-                BlockUnit::Check(less_one(n), v % 32768 * 2),
+                BlockUnit::Check(n.saturating_sub(1), v % 32768 * 2),
                 k,
             ),
         }

@@ -7,19 +7,13 @@ ghost use Rattle.imprint.specs.Imprint.{four_by, twelve_by};
 ghost use Rattle.bytewise.specs.Bytewise.{plate, behind, byte_stamped, two_stamped};
 
 use imprint::{lacks_cells, stamp_for, two_fit};
+use stamp::Tables;
 
 // Where the next byte goes, and the row of the stamps for it: 256 for each of the ones in a row before it.
 #[derive(Clone, Copy)]
 pub struct Press {
     pub at: usize,
     pub row: usize,
-}
-
-fn size(x: u16) -> usize
-    ensures value { result ≡ x }
-    ensures upper_bound { result < 65536 }
-{
-    x as usize
 }
 
 // Four cells at once.
@@ -42,9 +36,9 @@ fn put_twelve(out: &mut [u8], fours: &[u32; 16], at: usize, e: u16)
     requires { at + 12 ≤ length out.old }
     ensures { out.new ≡ twelve_by fours.now out.old at e }
 {
-    put_four(out, fours, at, size(e % 16));
-    put_four(out, fours, at + 4, size(e / 16 % 16));
-    put_four(out, fours, at + 8, size(e / 2048 % 4));
+    put_four(out, fours, at, usize::from(e % 16));
+    put_four(out, fours, at + 4, usize::from(e / 16 % 16));
+    put_four(out, fours, at + 8, usize::from(e / 2048 % 4));
 }
 
 // A stamp's cells where there is room for them, and where the next byte goes.
@@ -56,47 +50,34 @@ fn put_stamp(out: &mut [u8], fours: &[u32; 16], at: usize, e: u16) -> Press
 {
     put_twelve(out, fours, at, e);
     Press {
-        at: at + 8 + size(e / 8192),
-        row: size(e / 256 % 8) * 256,
+        at: at + 8 + usize::from(e / 8192),
+        row: usize::from(e / 256 % 8) * 256,
     }
 }
 
 // A byte of content with its inserted zeros, where there is room for any byte's cells.
-pub fn put_byte(out: &mut [u8], stamps: &[u16; 1280], fours: &[u32; 16], p: Press, v: u8) -> Press
-    ensures value { result ≡ (byte_stamped stamps.now fours.now (plate out.old p) v).press }
-    ensures out_after { out.new ≡ (byte_stamped stamps.now fours.now (plate out.old p) v).buffer }
+pub fn put_byte(out: &mut [u8], tables: &Tables, p: Press, v: u8) -> Press
+    ensures value { result ≡ (byte_stamped tables.now.stamps tables.now.fours (plate out.old p) v).press }
+    ensures out_after { out.new ≡ (byte_stamped tables.now.stamps tables.now.fours (plate out.old p) v).buffer }
 {
-    let at = p.at;
-    if lacks_cells(out.len(), at) {
+    if lacks_cells(out.len(), p.at) {
         return p;
     }
-    let e = stamp_for(stamps, p.row, v);
-    put_stamp(out, fours, at, e)
+    let e = stamp_for(&tables.stamps, p.row, v);
+    put_stamp(out, &tables.fours, p.at, e)
 }
 
 // Two bytes of content with their inserted zeros. Where they fit, one test serves both.
-pub fn put_two(
-    out: &mut [u8],
-    stamps: &[u16; 1280],
-    fours: &[u32; 16],
-    p: Press,
-    v: u8,
-    w: u8,
-) -> Press
-    ensures value { result ≡ (two_stamped stamps.now fours.now
-        (plate out.old p) v w).press }
-    ensures out_after { out.new ≡ (two_stamped stamps.now fours.now
-        (plate out.old p) v w).buffer }
+pub fn put_two(out: &mut [u8], tables: &Tables, p: Press, v: u8, w: u8) -> Press
+    ensures value { result ≡ (two_stamped tables.now.stamps tables.now.fours (plate out.old p) v w).press }
+    ensures out_after { out.new ≡ (two_stamped tables.now.stamps tables.now.fours (plate out.old p) v w).buffer }
 {
-    let at = p.at;
-    let row = p.row;
-    if two_fit(out.len(), at, row) {
-        let e = stamp_for(stamps, row, v);
-        let r = put_stamp(out, fours, at, e);
-        let next = r.at;
-        let f = stamp_for(stamps, r.row, w);
-        return put_stamp(out, fours, next, f);
+    if two_fit(out.len(), p.at, p.row) {
+        let e = stamp_for(&tables.stamps, p.row, v);
+        let q = put_stamp(out, &tables.fours, p.at, e);
+        let f = stamp_for(&tables.stamps, q.row, w);
+        return put_stamp(out, &tables.fours, q.at, f);
     }
-    let q = put_byte(out, stamps, fours, p, v);
-    put_byte(out, stamps, fours, q, w)
+    let q = put_byte(out, tables, p, v);
+    put_byte(out, tables, q, w)
 }

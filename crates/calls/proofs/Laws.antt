@@ -1,20 +1,11 @@
--- A comparison that says true of equal lists, and of no others, is the definition's; and a test as
--- a byte. Assumes nothing.
-use mathlib.Core.Path.{◌≡◌, refl, sym}
-use mathlib.Core.Bool.{Bool, true, false}
-use mathlib.Core.List.{List}
-use Prim.Native.Nat.{ℕ}
-use mir.Val.{bool_byte}
-use Rattle.common.specs.Bit.{placed}
-use Rattle.common.specs.Tools.{void, bool_or}
-use Rattle.common.specs.Same.{same, same_self, same_equal}
+-- What `==` answers of two slices is whether they have the same numbers. Assumes nothing.
+use Rattle.std.proofs.Common.{◌≡◌, refl, ap, ◌&&◌, List, [], ◌∷◌, ℕ, eqb}
+use lib.Pointwise.{pointwise}
+use Rattle.common.specs.Same.{same}
 
-pub same_is : (r : Bool) (ms ns : List ℕ) → (r ≡ true → ms ≡ ns) × (ms ≡ ns → r ≡ true)
-    → r ≡ same ms ns
-same_is true ms ns h = sym (rw (h.0 refl) (same_self ns))
-same_is false ms ns h =
-    bool_or (same ms ns) (λ f. void (h.1 (same_equal ms ns f))) (λ f. sym f)
-
-pub byte_placed : (b : Bool) → bool_byte b ≡ placed b 1
-byte_placed true = refl
-byte_placed false = refl
+pub same_is : (ms ns : List ℕ) → pointwise eqb ms ns ≡ same ms ns
+unfolding same
+same_is [] [] = refl
+same_is [] (n ∷ ns) = refl
+same_is (m ∷ ms) [] = refl
+same_is (m ∷ ms) (n ∷ ns) = ap (λ b. eqb m n && b) (same_is ms ns)

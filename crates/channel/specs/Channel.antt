@@ -12,7 +12,7 @@ use Rattle.settings.specs.declared.Registers.{Registers}
 use Rattle.settings.specs.declared.Lines.{Lines}
 use Rattle.status.specs.declared.Live.{Live}
 use Rattle.status.specs.declared.Status.{Status}
-use Rattle.status.specs.Status.{status, quiet_live, noticed}
+use Rattle.status.specs.Status.{unlatched, noticed}
 use Rattle.channel.specs.declared.Channel.{Channel}
 use Rattle.channel.specs.declared.Answer.{Answer}
 use Rattle.channel.specs.declared.Answered.{Answered}
@@ -109,4 +109,4 @@ no_registers = registers 0 0 0 0 0 0 0 NoMode
 abbrev pub reset_with : Lines → Channel
 reset_with l =
     channel no_registers sending.at_reset receiving.reset empty
-    (status false quiet_live) l 0 true false
+    unlatched l 0 true false

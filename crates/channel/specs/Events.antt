@@ -1,8 +1,9 @@
 -- 01, Events: data, ticks and lines of one channel, and which of its sources are pending. Assumes
 -- nothing.
-use Rattle.std.specs.Prelude.{Bool, false, not, ◌&&◌, ◌||◌, ℕ, eqb, leb, if◌then◌else◌}
+use Rattle.std.specs.Prelude.{Option, Some, None, Bool, true, false, ◌&&◌, ◌||◌, ℕ, eqb, leb, if◌then◌else◌, is_some}
 use Rattle.common.specs.declared.Refusal.TheVariants as refusal
 use Rattle.line.specs.Bits.{one_if}
+use Rattle.entry.specs.declared.Entry.{Entry}
 use Rattle.queue.specs.declared.Queue.{Queue}
 use Rattle.queue.specs.Queue.{pushed, taken, oldest, waits, special}
 use Rattle.sender.specs.declared.Ticked.{Ticked}
@@ -10,6 +11,8 @@ use Rattle.sender.specs.Sender.{tick, written}
 use Rattle.receiver.specs.declared.Heard.{Heard}
 use Rattle.receiver.specs.Receiver.{hear}
 use Rattle.interrupts.specs.declared.Sources.{Sources}
+use Rattle.settings.specs.declared.ReceiveMode.{ReceiveMode}
+use Rattle.settings.specs.declared.ReceiveMode.TheVariants.{Off, First, AllParitySpecial, All}
 use Rattle.channel.specs.declared.Channel.{Channel}
 use Rattle.channel.specs.declared.Answer.TheVariants.{Done, Gave, Refused}
 use Rattle.channel.specs.declared.Answered.{Answered}
@@ -44,11 +47,12 @@ unfoldable pub transmit_tick : Channel → Answered
 transmit_tick c = transmitted c (tick (sending_of c.registers c.lines) c.sender)
 
 -- a receive tick "takes one"; what the receiver hands over is queued
-abbrev pub queued : Queue → Heard → Queue
-queued q h = if h.some then pushed q h.entry else q
+abbrev pub queued : Queue → Option Entry → Queue
+queued q None = q
+queued q (Some e) = pushed q e
 
 abbrev pub heard_by : Channel → Heard → Channel
-heard_by c h = with_queue (with_receiver c h.receiver) (queued c.queue h)
+heard_by c h = with_queue (with_receiver c h.receiver) (queued c.queue h.entry)
 
 unfoldable pub receive_tick : Channel → Bool → Channel
 receive_tick c b =
@@ -73,15 +77,26 @@ lines_in c dcd cts =
     else answered Done (lines_set c (on_level dcd) (on_level cts))
 
 -- 01, Interrupts: the oldest entry is "special: overrun, framing, frame end, parity in mode 2"
+abbrev pub parity_special : ReceiveMode → Bool
+parity_special Off = false
+parity_special First = false
+parity_special AllParitySpecial = true
+parity_special All = false
+
 unfoldable pub special_waits : Channel → Bool
-special_waits c = special c.queue (eqb (receive_mode c.registers.wr1) 2)
+special_waits c = special c.queue (parity_special (receive_mode c.registers.wr1))
 
 -- "Receive is pending by mode if a character waits (mode 1: and armed), or, modes 1 to 3, if the
 -- oldest entry is special"
+abbrev pub asks : ReceiveMode → Bool → Bool → Bool → Bool
+asks Off waits armed special = false
+asks First waits armed special = (waits && armed) || special
+asks AllParitySpecial waits armed special = waits || special
+asks All waits armed special = waits || special
+
 unfoldable pub receive_pending : Channel → Bool
 receive_pending c =
-    let m = receive_mode c.registers.wr1 in
-    not (eqb m 0) && ((waits c.queue && (not (eqb m 1) || c.armed)) || special_waits c)
+    asks (receive_mode c.registers.wr1) (waits c.queue) c.armed (special_waits c)
 
 -- "External: latched and WR1 D0."
 unfoldable pub pending_in : Channel → Sources
@@ -89,6 +104,5 @@ pending_in c =
     record {
       receive = receive_pending c;
       transmit = c.transmit;
-      external = c.status.latched
-          && external_on c.registers.wr1;
+      external = is_some c.status.latched && external_on c.registers.wr1;
     }

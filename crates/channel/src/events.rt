@@ -9,6 +9,7 @@ ghost use Rattle.channel.specs.Events.{data_written, data_read, after_tick, tran
 
 use crate::{Answer, Answered, Channel};
 use common::{Refusal, in_sdlc};
+use entry::Entry;
 use queue::Queue;
 use receiver::Heard;
 use sender::Ticked;
@@ -25,6 +26,7 @@ impl Channel {
     }
 
     // A data read: refused where nothing waits.
+    #[tactic(auto, unfolding(crate::specs::Events::data_read))]
     pub fn data_read(mut self) -> Answered
         ensures { result ≡ data_read self }
     {
@@ -46,13 +48,13 @@ impl Channel {
     fn after_tick(mut self, t: Ticked) -> Channel
         ensures { result ≡ after_tick self t }
     {
-        let s = t.sender;
-        self.sender = s;
-        self.transmit = self.transmit | (t.loaded & transmit_on(self.registers.wr1));
+        self.sender = t.sender;
+        self.transmit |= t.loaded & transmit_on(self.registers.wr1);
         self
     }
 
     // What the sender does; SDLC's is told no more than it heeds.
+    #[tactic(auto, unfolding(settings::specs::Settings::sending_of), using(sender::specs::Laws::Tick::tick_sdlc_lem, crate::specs::Laws::Still::in_sdlc_lem))]
     fn ticked(self) -> Ticked
         ensures { result ≡ tick (sending_of self.registers self.lines) self.sender }
     {
@@ -66,6 +68,7 @@ impl Channel {
     }
 
     // A transmit tick.
+    #[tactic(auto, unfolding(crate::specs::Events::transmit_tick), using(crate::specs::Laws::Still::still_ticked))]
     pub fn transmit_tick(self) -> Answered
         ensures { result ≡ transmit_tick self }
     {
@@ -77,23 +80,22 @@ impl Channel {
                 channel: self.after_tick(t),
             };
         }
-        let c = self.after_tick(t).settled(self);
         Answered {
             answer: Answer::Gave(cell(t.bit)),
-            channel: c,
+            channel: self.after_tick(t).settled(self),
         }
     }
 
     fn heard_by(mut self, h: Heard) -> Channel
         ensures { result ≡ heard_by self h }
     {
-        let v = h.receiver;
-        self.receiver = v;
-        self.queue = queued(self.queue, h);
+        self.receiver = h.receiver;
+        self.queue = queued(self.queue, h.entry);
         self
     }
 
     // A receive tick.
+    #[tactic(auto, unfolding(crate::specs::Events::receive_tick), using(crate::specs::Laws::Still::still_heard))]
     pub fn receive_tick(self, bit: bool) -> Answered
         ensures { result ≡ answered Done (receive_tick self bit) }
     {
@@ -114,10 +116,11 @@ impl Channel {
     }
 
     // DCD and CTS take their values; refused where one is no level.
+    #[tactic(auto, unfolding(crate::specs::Events::lines_set))]
     pub fn set_lines(mut self, dcd: u8, cts: u8) -> Answered
         ensures { result ≡ lines_in self dcd cts }
     {
-        if (2 <= dcd) | (2 <= cts) {
+        if dcd > 1 || cts > 1 {
             return Answered {
                 answer: Answer::Refused(Refusal::Level),
                 channel: self,
@@ -137,18 +140,18 @@ impl Channel {
 }
 
 // What the receiver hands over is queued.
-fn queued(q: Queue, h: Heard) -> Queue
-    ensures { result ≡ queued q h }
+fn queued(q: Queue, entry: Option<Entry>) -> Queue
+    ensures { result ≡ queued q entry }
 {
-    if h.some {
-        return q.push(h.entry);
+    match entry {
+        Some(e) => q.push(e),
+        None => q,
     }
-    q
 }
 
 // A line bit as a number.
 pub fn cell(b: bool) -> u8
     ensures { result ≡ one_if b }
 {
-    if b { 1 } else { 0 }
+    u8::from(b)
 }

@@ -7,23 +7,22 @@ use status::Live;
 
 impl Channel {
     // The five bits as they now are.
+    #[tactic(auto, unfolding(crate::specs::Channel::live_of))]
     pub fn live(self) -> Live
         ensures { result ≡ live_of self }
     {
-        let r = self.registers;
-        let l = self.lines;
-        let v = self.receiver;
-        let g = r.receiving(l);
+        let g = self.registers.receiving(self.lines);
         Live {
-            abort: v.broken,
+            abort: self.receiver.broken,
             underrun: self.sender.shared.latch,
-            cts: l.cts,
-            hunt: v.hunting(g),
-            dcd: l.dcd,
+            cts: self.lines.cts,
+            hunt: self.receiver.hunting(g),
+            dcd: self.lines.dcd,
         }
     }
 
     // This channel after a step from that one: the status rule.
+    #[tactic(auto, unfolding(crate::specs::Channel::settled))]
     pub fn settled(mut self, was: Channel) -> Channel
         ensures { result ≡ settled was self }
     {

@@ -14,7 +14,7 @@ use queue::Queue;
 use receiver::Receiver;
 use sender::Sender;
 use settings::{Lines, Registers};
-use status::{Live, Status};
+use status::Status;
 
 // Which of the two channels.
 #[derive(Clone, Copy)]
@@ -40,7 +40,7 @@ pub struct Channel {
     pub registers: Registers,
 }
 
-// What a call answers.
+// What a call answers. Three cases in the paper's words: a `Result<Option<u8>, Refusal>` would nest them and say none.
 #[derive(Clone, Copy)]
 pub enum Answer {
     Done,
@@ -60,8 +60,7 @@ impl Answer {
         ensures { result ≡ answer_number self }
     {
         match self {
-            Answer::Done => 0,
-            Answer::Gave(_) => 0,
+            Answer::Done | Answer::Gave(_) => 0,
             Answer::Refused(k) => k.number(),
         }
     }
@@ -71,15 +70,14 @@ impl Answer {
         ensures { result ≡ answer_value self }
     {
         match self {
-            Answer::Done => 0,
             Answer::Gave(v) => v,
-            Answer::Refused(_) => 0,
+            Answer::Done | Answer::Refused(_) => 0,
         }
     }
 }
 
 impl Channel {
-    // WR0's commands.
+    // WR0's commands: constants of the type and no enum, as document 01 asks.
     pub const SEND_ABORT: u8 = 1;
 
     pub const RESET_STATUS: u8 = 2;
@@ -119,10 +117,7 @@ impl Channel {
             sender: Sender::reset(),
             receiver: Receiver::reset(),
             queue: Queue::empty(),
-            status: Status {
-                latched: false,
-                shown: Live::quiet(),
-            },
+            status: Status::unlatched(),
             lines: l,
             pointer: 0,
             armed: true,

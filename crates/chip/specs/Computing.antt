@@ -9,7 +9,7 @@ use Rattle.queue.specs.Queue.{pushed, taken, oldest, rr1, rr1_told, special}
 use Rattle.shapes.specs.Shapes.{shape_bits}
 use Rattle.shapes.specs.Sent.{bits_sent, odd_over}
 use Rattle.asynchronous.specs.Sending.{stop_bits, tick_character}
-use Rattle.asynchronous.specs.Hearing.{size, bits_with, hear_character}
+use Rattle.asynchronous.specs.Hearing.{bits_with, hear_character}
 use Rattle.sdlc.specs.Sending.{following, going, tick_sdlc}
 use Rattle.sdlc.specs.Hearing.{accept, push, one, zero_bit, hear_sdlc}
 use Rattle.bytesync.specs.Sending.{following as following_block, tick_block}
@@ -18,7 +18,7 @@ use Rattle.sender.specs.Sender.{tick}
 use Rattle.receiver.specs.Receiver.{hear}
 use Rattle.settings.specs.Settings.{mode_of, not_built, length_of, sending_of, receiving_of}
 use Rattle.status.specs.Status.{changed, noticed, afresh}
-use Rattle.interrupts.specs.Interrupts.{highest, any_of, with_level, may_take, acknowledged, ended}
+use Rattle.interrupts.specs.Interrupts.{highest, any_of, with_source, may_take, acknowledged, ended}
 use Rattle.vector.specs.Vector.{code_of, vector_of}
 use Rattle.channel.specs.Channel.{live_of, settled}
 use Rattle.channel.specs.Control.{commanded, preset, command_step, preset_step, write_wr0, set_wr4}
@@ -33,12 +33,12 @@ use Rattle.chip.specs.Chip.{data_read_call, transmit_call, receive_call, lines_c
 unfoldable pub computing : ℕ
 unfolding
     low_bits text_bits check_step check_over top_bits check_bits stuff from_low pushed taken oldest rr1
-    rr1_told special shape_bits bits_sent odd_over stop_bits tick_character size bits_with hear_character
+    rr1_told special shape_bits bits_sent odd_over stop_bits tick_character bits_with hear_character
     following going tick_sdlc accept push one zero_bit hear_sdlc following_block tick_block sync_seen
     hunting entering arrived assembling hear_block tick hear mode_of not_built length_of sending_of
     receiving_of changed noticed afresh live_of settled commanded preset command_step preset_step
     write_wr0 set_wr4 set_register control_written rr0 rr1_now read_register data_read transmit_tick
-    receive_tick lines_set special_waits receive_pending pending_in highest any_of with_level may_take
+    receive_tick lines_set special_waits receive_pending pending_in highest any_of with_source may_take
     acknowledged ended code_of vector_of pending_of any_pending rr2 acknowledge reti control_write_a
     control_write_b control_write control_read_call data_write_call data_read_call transmit_call receive_call
     lines_call

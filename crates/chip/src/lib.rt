@@ -39,7 +39,7 @@ pub struct Acknowledged {
     pub acked: Acked,
 }
 
-// Each call by its channel. Its arms return, one by one: an answer that all of them make is laid out once more, and proved.
+// Each call by its channel, a number, since document 01 refuses one above 1. Its arms return, one by one: with the match as the value a tick takes some 25 instructions more (bench/README.md).
 impl Chip {
     // A hard reset.
     pub fn reset() -> Chip
@@ -60,15 +60,13 @@ impl Chip {
     fn put(mut self, ch: u8, x: Answered) -> Outcome
         ensures { result ≡ put self ch x }
     {
-        let w = x.answer;
-        let c = x.channel;
         if ch == 0 {
-            self.a = c;
+            self.a = x.channel;
         } else {
-            self.b = c;
+            self.b = x.channel;
         }
         Outcome {
-            answer: w,
+            answer: x.answer,
             chip: self,
         }
     }
@@ -84,6 +82,7 @@ impl Chip {
     }
 
     // A's control write, and B's. Written out in their call they take that more stack.
+    #[tactic(auto, unfolding(crate::specs::Chip::control_write_a))]
     fn write_a(mut self, v: u8) -> Outcome
         ensures { result ≡ control_write_a self v }
     {
@@ -91,6 +90,7 @@ impl Chip {
         self.put(0, control_write_a(self.a, v))
     }
 
+    #[tactic(auto, unfolding(crate::specs::Chip::control_write_b))]
     fn write_b(mut self, v: u8) -> Outcome
         ensures { result ≡ control_write_b self v }
     {
@@ -99,147 +99,108 @@ impl Chip {
     }
 
     // Control write.
+    #[tactic(auto, unfolding(crate::specs::Chip::control_write), using(common::specs::Tools::tests))]
     pub fn control_write(self, ch: u8, v: u8) -> Outcome
         ensures { result ≡ control_write self ch v }
     {
         match ch {
-            0 => {
-                return self.write_a(v);
-            }
-            1 => {
-                return self.write_b(v);
-            }
-            _ => {
-                return self.no_channel();
-            }
+            0 => return self.write_a(v),
+            1 => return self.write_b(v),
+            _ => return self.no_channel(),
         }
     }
 
     // Control read.
+    #[tactic(auto, unfolding(crate::specs::Chip::control_read_call, crate::specs::Interrupts::any_pending, crate::specs::Interrupts::rr2, crate::specs::Interrupts::pending_of), using(common::specs::Tools::tests))]
     pub fn control_read(self, ch: u8) -> Outcome
         ensures { result ≡ control_read_call self ch }
     {
         match ch {
-            0 => {
-                return self.put(ch, control_read_a(self.a, self.b));
-            }
-            1 => {
-                return self.put(ch, control_read_b(self.a, self.b));
-            }
-            _ => {
-                return self.no_channel();
-            }
+            0 => return self.put(ch, control_read_a(self.a, self.b)),
+            1 => return self.put(ch, control_read_b(self.a, self.b)),
+            _ => return self.no_channel(),
         }
     }
 
     // Data write.
+    #[tactic(auto, unfolding(crate::specs::Chip::data_write_call), using(common::specs::Tools::tests))]
     pub fn data_write(mut self, ch: u8, v: u8) -> Outcome
         ensures { result ≡ data_write_call self ch v }
     {
         match ch {
-            0 => {
-                self.a = self.a.data_write(v);
-                return Outcome {
-                    answer: Answer::Done,
-                    chip: self,
-                };
-            }
-            1 => {
-                self.b = self.b.data_write(v);
-                return Outcome {
-                    answer: Answer::Done,
-                    chip: self,
-                };
-            }
-            _ => {
-                return self.no_channel();
-            }
+            0 => self.a = self.a.data_write(v),
+            1 => self.b = self.b.data_write(v),
+            _ => return self.no_channel(),
         }
-    }
-
-    // Data read.
-    pub fn data_read(self, ch: u8) -> Outcome
-        ensures { result ≡ data_read_call self ch }
-    {
-        match ch {
-            0 => {
-                return self.put(ch, self.a.data_read());
-            }
-            1 => {
-                return self.put(ch, self.b.data_read());
-            }
-            _ => {
-                return self.no_channel();
-            }
-        }
-    }
-
-    // Transmit tick.
-    pub fn transmit(self, ch: u8) -> Outcome
-        ensures { result ≡ transmit_call self ch }
-    {
-        match ch {
-            0 => {
-                return self.put(ch, transmit_a(self.a));
-            }
-            1 => {
-                return self.put(ch, transmit_b(self.b));
-            }
-            _ => {
-                return self.no_channel();
-            }
-        }
-    }
-
-    // Receive tick.
-    pub fn receive(self, ch: u8, bit: u8) -> Outcome
-        ensures { result ≡ receive_call self ch bit }
-    {
-        match ch {
-            0 => {
-                return self.put(ch, receive_a(self.a, bit));
-            }
-            1 => {
-                return self.put(ch, receive_b(self.b, bit));
-            }
-            _ => {
-                return self.no_channel();
-            }
-        }
-    }
-
-    // Set DCD and CTS.
-    pub fn set_lines(self, ch: u8, dcd: u8, cts: u8) -> Outcome
-        ensures { result ≡ lines_call self ch dcd cts }
-    {
-        match ch {
-            0 => {
-                return self.put(ch, self.a.set_lines(dcd, cts));
-            }
-            1 => {
-                return self.put(ch, self.b.set_lines(dcd, cts));
-            }
-            _ => {
-                return self.no_channel();
-            }
-        }
-    }
-
-    // Acknowledge.
-    pub fn acknowledge(mut self) -> Acknowledged
-        ensures { result ≡ acknowledge self }
-    {
-        let t = acknowledging(self.a, self.b, self.service);
-        let w = t.acked;
-        let s = t.service;
-        self.service = s;
-        Acknowledged {
-            acked: w,
+        Outcome {
+            answer: Answer::Done,
             chip: self,
         }
     }
 
+    // Data read.
+    #[tactic(auto, unfolding(crate::specs::Chip::data_read_call), using(common::specs::Tools::tests))]
+    pub fn data_read(self, ch: u8) -> Outcome
+        ensures { result ≡ data_read_call self ch }
+    {
+        match ch {
+            0 => return self.put(ch, self.a.data_read()),
+            1 => return self.put(ch, self.b.data_read()),
+            _ => return self.no_channel(),
+        }
+    }
+
+    // Transmit tick.
+    #[tactic(auto, unfolding(crate::specs::Chip::transmit_call), using(common::specs::Tools::tests))]
+    pub fn transmit(self, ch: u8) -> Outcome
+        ensures { result ≡ transmit_call self ch }
+    {
+        match ch {
+            0 => return self.put(ch, transmit_a(self.a)),
+            1 => return self.put(ch, transmit_b(self.b)),
+            _ => return self.no_channel(),
+        }
+    }
+
+    // Receive tick.
+    #[tactic(auto, unfolding(crate::specs::Chip::receive_call), using(common::specs::Tools::tests))]
+    pub fn receive(self, ch: u8, bit: u8) -> Outcome
+        ensures { result ≡ receive_call self ch bit }
+    {
+        match ch {
+            0 => return self.put(ch, receive_a(self.a, bit)),
+            1 => return self.put(ch, receive_b(self.b, bit)),
+            _ => return self.no_channel(),
+        }
+    }
+
+    // Set DCD and CTS.
+    #[tactic(auto, unfolding(crate::specs::Chip::lines_call), using(common::specs::Tools::tests))]
+    pub fn set_lines(self, ch: u8, dcd: u8, cts: u8) -> Outcome
+        ensures { result ≡ lines_call self ch dcd cts }
+    {
+        match ch {
+            0 => return self.put(ch, self.a.set_lines(dcd, cts)),
+            1 => return self.put(ch, self.b.set_lines(dcd, cts)),
+            _ => return self.no_channel(),
+        }
+    }
+
+    // Acknowledge.
+    #[tactic(auto, unfolding(crate::specs::Interrupts::acknowledge, crate::specs::Interrupts::pending_of, crate::specs::Interrupts::rr2))]
+    pub fn acknowledge(mut self) -> Acknowledged
+        ensures { result ≡ acknowledge self }
+    {
+        let t = acknowledging(self.a, self.b, self.service);
+        self.service = t.service;
+        Acknowledged {
+            chip: self,
+            acked: t.acked,
+        }
+    }
+
     // RETI.
+    #[tactic(auto, unfolding(crate::specs::Interrupts::reti))]
     pub fn reti(mut self) -> Chip
         ensures { result ≡ reti self }
     {

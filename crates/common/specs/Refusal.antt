@@ -1,5 +1,5 @@
 -- 01, Events, and 02: the number that the paper gives each refusal. Assumes nothing.
-use Rattle.std.specs.Prelude.{ℕ}
+use Rattle.std.specs.Prelude.{ℕ, Result, Ok, Err}
 use Rattle.common.specs.declared.Refusal.{Refusal}
 use Rattle.common.specs.declared.Refusal.TheVariants.{Channel, Level, Setting, NothingWaits}
 use Rattle.common.specs.declared.Refusal.TheVariants.{NoList, NoteLength, CutList, NoRoom}
@@ -16,3 +16,8 @@ number_of CutList = 7
 number_of NoRoom = 8
 number_of LongList = 9
 number_of NoCharacter = 10
+
+-- of an answer that may be a refusal: 0 where it is none
+abbrev pub number_in : {T : Type 0} → Result T Refusal → ℕ
+number_in (Ok x) = 0
+number_in (Err k) = number_of k

@@ -2,12 +2,12 @@
 #![tactic(auto)]
 
 ghost use Rattle.std.specs.Prelude.{◌≡◌, ◌≤◌};
-ghost use Rattle.common.specs.Mode.{in_sdlc, in_blocks, mode_number};
+ghost use Rattle.common.specs.Mode.{in_sdlc, in_blocks, same_mode};
 ghost use Rattle.common.specs.Bit.{placed};
-ghost use Rattle.common.specs.Refusal.{number_of};
+ghost use Rattle.common.specs.Refusal.{number_of, number_in};
 
 // 01, Events: the table's rows, in its order. A refused call changes nothing and gives back only this.
-#[derive(Clone, Copy)]
+#[derive(Clone, Copy, PartialEq, Eq)]
 pub enum Refusal {
     // 1: channel above 1
     Channel,
@@ -51,8 +51,18 @@ impl Refusal {
     }
 }
 
+// The paper's number of what was refused, 0 where nothing was; whatever the answer is.
+pub fn number_in<T: Copy>(answer: Result<T, Refusal>) -> u8
+    ensures { result ≡ number_in answer }
+{
+    match answer {
+        Ok(_) => 0,
+        Err(k) => k.number(),
+    }
+}
+
 // 01, Registers: what the last accepted WR4 chose; a reset "leaves no mode". 02, P3: Monosync and Bisync.
-#[derive(Clone, Copy)]
+#[derive(Clone, Copy, PartialEq, Eq)]
 pub enum Mode {
     NoMode,
     Asynchronous,
@@ -65,39 +75,21 @@ pub enum Mode {
 pub fn in_sdlc(mode: Mode) -> bool
     ensures { result ≡ in_sdlc mode }
 {
-    match mode {
-        Mode::NoMode => false,
-        Mode::Asynchronous => false,
-        Mode::Monosync => false,
-        Mode::Bisync => false,
-        Mode::Sdlc => true,
-    }
+    mode == Mode::Sdlc
 }
 
 // The mode is one of the two byte-synchronous ones.
 pub fn in_blocks(mode: Mode) -> bool
     ensures { result ≡ in_blocks mode }
 {
-    match mode {
-        Mode::NoMode => false,
-        Mode::Asynchronous => false,
-        Mode::Monosync => true,
-        Mode::Bisync => true,
-        Mode::Sdlc => false,
-    }
+    matches!(mode, Mode::Monosync | Mode::Bisync)
 }
 
-// A mode's number, to compare two by.
-pub fn mode_number(mode: Mode) -> u8
-    ensures { result ≡ mode_number mode }
+// The two modes are one.
+pub fn same_mode(m: Mode, n: Mode) -> bool
+    ensures { result ≡ same_mode m n }
 {
-    match mode {
-        Mode::NoMode => 0,
-        Mode::Asynchronous => 1,
-        Mode::Monosync => 2,
-        Mode::Bisync => 3,
-        Mode::Sdlc => 4,
-    }
+    m == n
 }
 
 // A bit of a register, by its weight.

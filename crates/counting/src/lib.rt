@@ -34,12 +34,10 @@ fn each_bit(t: Tally, v: u8) -> Tally
     let mut ones = t.ones;
     let mut closed = t.closed;
     let mut rest = v;
-    let mut left: u8 = 8;
-    while 0 < left {
+    for _ in 0..8u8 {
         ones = ones_after(ones, closed, rest % 2 == 1);
         closed = closed_after(ones, closed);
-        rest = rest / 2;
-        left = left - 1;
+        rest /= 2;
     }
     Tally { ones, closed }
 }
@@ -74,12 +72,9 @@ pub fn count(note: &[u8]) -> usize
     }
     let mut t = Tally { ones: 0, closed: 0 };
     let mut m = ONES;
-    let mut i = 0;
-    while i < note.len() {
-        let v = note[i];
-        t = count_byte(t, v);
-        m = mirrored_byte(m, v);
-        i = i + 1;
+    for v in note {
+        t = count_byte(t, *v);
+        m = mirrored_byte(m, *v);
     }
     let check = m ^ ONES;
     t = count_byte(t, (check % 256) as u8);

@@ -1,11 +1,12 @@
 -- A block sent in time: what was sent, followed by what is to come, is the block at every moment.
 -- One induction over the story. Assumes nothing.
-use Rattle.std.specs.Prelude.{◌≡◌, refl, Bool, false, List, [], ◌∷◌, ◌++◌, ℕ, ◌+◌, ◌≤◌, length, take}
+use Rattle.std.specs.Prelude.{◌≡◌, refl, Bool, false, List, [], ◌∷◌, ◌++◌, ℕ, ◌+◌, ◌≤◌, length, take, None}
 use Rattle.std.proofs.Common.{sym, ap, ◌∙◌, subst, append_assoc, append-nil, arith, length-append, take_at, length-take-le}
 use Rattle.common.specs.Tools.{no_items}
 use Rattle.line.specs.Bits.{low_bits}
 use Rattle.shared.specs.Preset.{zeros}
-use Rattle.shared.specs.Shared.{shared}
+use Rattle.shared.specs.Shared.{shared, full}
+use Rattle.shared.specs.Laws.Buffer.{buffer_empty}
 use Rattle.bytesync.specs.declared.BlockUnit.TheVariants.{Sync}
 use Rattle.bytesync.specs.declared.Syncing.{Syncing}
 use Rattle.bytesync.specs.Sending.{tick_block}
@@ -64,7 +65,7 @@ conserved w {left} {more} (still {c = c} {rest = rest} {tail = tail} {e = x} {st
     (conserved w i h d s (k ∙ e) g (omega (arith, skip_ticks w x st z)))
 conserved w {left} {more} (writes {c = c} {v = v} {rest = rest} {tail = tail} {st = st} f i)
     h d s e g l =
-    let m = moves h.syncing g (sym (ap (λ (x : SenderSide). x.sender.shared.full) e) ∙ f) in
+    let m = moves h.syncing g (sym (ap (λ (x : SenderSide). full x.sender.shared) e) ∙ f) in
     let z = write_no_tick w v in
     skip w c (DataWrite (number w) v) st h s (filled_with s v) (v ∷ rest) tail rest tail left more z
     m.0
@@ -77,7 +78,7 @@ conserved w {left} {more}
     h d s e g l =
     let m = moves_behind h.syncing g
     (sym (ap (λ (x : SenderSide). x.sender.shared.latch) e) ∙ b)
-    (sym (ap (λ (x : SenderSide). x.sender.shared.full) e) ∙ f) in
+    (sym (ap (λ (x : SenderSide). full x.sender.shared) e) ∙ f) in
     let z = write_no_tick w v in
     skip w c (DataWrite (number w) v) st h s (filled_with s v) rest (v ∷ tail) rest tail left more z
     m.0
@@ -110,15 +111,14 @@ conserved w {left} {more} (ticking {c = c} {rest = rest} {tail = tail} {st = st}
 
 -- From the start
 
-abbrev start_at : ℕ → ℕ → ℕ → Sends
-start_at n x b = sends (Sync n x) (shared b false false zeros)
+abbrev start_at : ℕ → ℕ → Sends
+start_at n x = sends (Sync n x) (shared None false zeros)
 
 start_side : (w : Which) (c : Chip) (p : ℕ) (s : Start w c p)
-    → side_of w c ≡ side (start_at s.n s.x (chan w c).sender.shared.buffer)
-    (side_of w c).heeds
+    → side_of w c ≡ side (start_at s.n s.x) (side_of w c).heeds
 start_side w c p s =
     let k = (chan w c).sender.shared in
-    λ i. side (sends (s.sync i) (shared k.buffer (s.empty i) (s.cleared i) (s.preset i)))
+    λ i. side (sends (s.sync i) (shared (buffer_empty k s.empty i) (s.cleared i) (s.preset i)))
     (side_of w c).heeds
 
 head_length : (w : Which) (c : Chip) (p : ℕ) → Start w c p → length (sync_head (syncs_of w c) p) ≡ p
@@ -135,7 +135,7 @@ module _ (w : Which) (c : Chip) (p v : ℕ) (vs tail left more : List ℕ) (st :
   g = syncing_of w c
 
   abbrev from : Sends
-  from = start_at s.n s.x (chan w c).sender.shared.buffer
+  from = start_at s.n s.x
 
   to_come_lem : sync_head (syncs_of w c) p ++ to_come g from (v ∷ vs) tail ≡ block_bits g (v ∷ vs) tail
   to_come_lem =
@@ -152,13 +152,12 @@ module _ (w : Which) (c : Chip) (p v : ℕ) (vs tail left more : List ℕ) (st :
 
   pub kept : Conserved w c st (side_of w c).heeds from (v ∷ vs) tail left more
   kept =
-      let b = (chan w c).sender.shared.buffer in
       let a = length-append (sync_head (syncs_of w c) p) (to_come g from (v ∷ vs) tail) in
       let d = head_length w c p s in
       let e = ap length to_come_lem in
       let f = block_length in
       conserved w i (side_of w c).heeds s.settings from (start_side w c p s)
-      (opening s.n s.x b false zeros (v ∷ vs) tail tt) (omega arith)
+      (opening s.n s.x None zeros (v ∷ vs) tail tt) (omega arith)
 
   pub sent_whole : (sync_head (syncs_of w c) p ++ line_of w c st)
       ++ to_come g kept.last left more ≡ block_bits g (v ∷ vs) tail

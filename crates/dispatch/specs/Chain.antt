@@ -1,6 +1,6 @@
 -- Two blocks in a row: where one has ended, the check preset and the latch cleared, the next
 -- starts. Assumes nothing.
-use Rattle.std.specs.Prelude.{◌≡◌, refl, Bool, true, false, List, [], ◌∷◌, ◌++◌, ℕ, zero, suc, ◌+◌, ◌≤◌, length, if◌then◌else◌}
+use Rattle.std.specs.Prelude.{◌≡◌, refl, Bool, true, false, List, [], ◌∷◌, ◌++◌, ℕ, zero, suc, ◌+◌, ◌≤◌, length, if◌then◌else◌, Some, None}
 use Rattle.std.proofs.Common.{sym, ◌∙◌, append-nil, arith, length-append}
 use Rattle.std.proofs.Math.Path.{ap, subst}
 use Rattle.std.proofs.Math.ListN.{take}
@@ -11,7 +11,7 @@ use Rattle.line.specs.Bits.{low_bits, text_bits}
 use Rattle.line.specs.Check.{ones, top_bits}
 use Rattle.line.specs.Laws.Bits.{low_bits_length}
 use Rattle.shared.specs.Preset.{zeros, preset_for}
-use Rattle.shared.specs.Shared.{shared}
+use Rattle.shared.specs.Shared.{shared, full}
 use Rattle.bytesync.specs.declared.Syncs.{Syncs}
 use Rattle.bytesync.specs.declared.BlockUnit.TheVariants.{Sync}
 use Rattle.bytesync.specs.declared.Syncing.{Syncing}
@@ -51,7 +51,7 @@ some_behind g vs =
 pub record Ended (s : Sends) : Type 0 where
   pub x : ℕ
   pub unit : s.unit ≡ Sync 0 x
-  pub empty : s.shared.full ≡ false
+  pub empty : full s.shared ≡ false
 
 -- something behind it is still to come
 not_over : (xs ys : List Bool) → 8 ≤ length ys → xs ++ ys ≡ [] → ⊥
@@ -62,20 +62,20 @@ not_closed g xs c vs e =
     not_over xs (closed g c vs []) (omega (arith, closed_length g c vs [])) e
 
 ended : (g : Syncing) {s : Sends} → Stage s [] [] → to_come g s [] [] ≡ [] → Ended s
-ended g (at_mark b true c _ _ s) e = absurd (not_closed g (sync_bits g.syncs) c (b ∷ []) e)
-ended g (at_mark b false c _ _ s) e = absurd s
-ended g (opening n v b true c _ _ s) e = absurd (not_closed g (low_bits n v) c (b ∷ []) e)
-ended g (opening n v b false c _ _ s) e = absurd s
-ended g (in_byte n v b f c _ _) e =
-    absurd (not_closed g (low_bits n v) c (waiting (shared b f false c) []) e)
-ended g (in_check n v b f c _) e =
-    let vs = waiting (shared b f true c) [] in
+ended g (at_mark (Some b) c _ _ s) e = absurd (not_closed g (sync_bits g.syncs) c (b ∷ []) e)
+ended g (at_mark None c _ _ s) e = absurd s
+ended g (opening n v (Some b) c _ _ s) e = absurd (not_closed g (low_bits n v) c (b ∷ []) e)
+ended g (opening n v None c _ _ s) e = absurd s
+ended g (in_byte n v b c _ _) e =
+    absurd (not_closed g (low_bits n v) c (waiting (shared b false c) []) e)
+ended g (in_check n v b c _) e =
+    let vs = waiting (shared b true c) [] in
     absurd (not_over (top_bits n v) (behind g vs) (some_behind g vs) e)
-ended g (in_tail n v b f c _) e =
-    let vs = waiting (shared b f true c) [] in
+ended g (in_tail n v b c _) e =
+    let vs = waiting (shared b true c) [] in
     absurd (not_over (low_bits n v) (behind g vs) (some_behind g vs) e)
-ended g (closing zero v b c) e = record { x = v; unit = refl; empty = refl }
-ended g (closing (suc n) v b c) e = absurd (omega (arith, ap length e, low_bits_length (suc n) v))
+ended g (closing zero v c) e = record { x = v; unit = refl; empty = refl }
+ended g (closing (suc n) v c) e = absurd (omega (arith, ap length e, low_bits_length (suc n) v))
 
 -- "preset to zeros here"
 zeros_here : (w : Which) (c : Chip) → in_blocks (side_of w c).heeds.mode ≡ true
@@ -85,7 +85,7 @@ zeros_here w c m = ap (λ (b : Bool). if b then zeros else ones) m
 
 -- the next block starts where all of a sync is sent
 starts : (w : Which) (c : Chip) (x : ℕ) → (chan w c).sender.block ≡ Sync 0 x
-    → (chan w c).sender.shared.full ≡ false → (chan w c).pointer ≡ 0 → Good (side_of w c).heeds
+    → full (chan w c).sender.shared ≡ false → (chan w c).pointer ≡ 0 → Good (side_of w c).heeds
     → Start w (after c (anew w)) (sync_length (syncs_of w c))
 unfolding after
 starts w c x u f p g =
@@ -109,7 +109,7 @@ starts w c x u f p g =
       sync = ap (λ (t : Sender). t.block) s ∙ u;
       left = subst (λ (h : Heeded). sync_head h.syncing.syncs (sync_length y) ++ low_bits 0 x
           ≡ sync_bits h.syncing.syncs) (sym q) all;
-      empty = ap (λ (t : Sender). t.shared.full) s ∙ f;
+      empty = ap (λ (t : Sender). full t.shared) s ∙ f;
       preset = ap (λ (t : Sender). t.shared.check) s ∙ zeros_here w c g.mode;
       cleared = ap (λ (t : Sender). t.shared.latch) s;
       settings = subst Good (sym q) g;
@@ -125,5 +125,5 @@ next_block w c p v vs tail st s i n z =
     subst (λ (h : Heeded). Start w (after (after c st) (anew w)) (sync_length h.syncing.syncs)) q
     (starts w (after c st) e.x
     (ap (λ (x : SenderSide). x.sender.unit) k.there ∙ e.unit)
-    (ap (λ (x : SenderSide). x.sender.shared.full) k.there ∙ e.empty) z
+    (ap (λ (x : SenderSide). full x.sender.shared) k.there ∙ e.empty) z
     (subst Good (sym q) s.settings))

@@ -1,8 +1,9 @@
 -- The tick that finds the line dry sends the check's first bit and sets the latch, and RR0 D6 shows
 -- it. Assumes nothing.
-use Rattle.std.specs.Prelude.{◌≡◌, Bool, true, false, List, [], ◌∷◌, ◌++◌}
+use Rattle.std.specs.Prelude.{◌≡◌, Bool, true, false, List, [], ◌∷◌, ◌++◌, is_some, None}
 use Rattle.std.proofs.Common.{ap, ◌∙◌}
 use Rattle.shared.specs.Shared.{shared}
+use Rattle.shared.specs.Laws.Buffer.{buffer_empty}
 use Rattle.bytesync.specs.declared.BlockUnit.TheVariants.{Byte}
 use Rattle.bytesync.specs.declared.Synced.{Synced}
 use Rattle.bytesync.specs.Sending.{start_check, tick_block}
@@ -20,19 +21,19 @@ use Rattle.dispatch.specs.Statement.{RunsDry, LatchShown}
 
 dry_side : (w : Which) (c : Chip) (r : RunsDry w c)
     → let k = (chan w c).sender.shared in
-    (side_of w c).sender ≡ sends (Byte 0 r.last) (shared k.buffer false false k.check)
+    (side_of w c).sender ≡ sends (Byte 0 r.last) (shared None false k.check)
 dry_side w c r =
     let k = (chan w c).sender.shared in
-    λ i. sends (r.byte i) (shared k.buffer (r.empty i) (r.cleared i) k.check)
+    λ i. sends (r.byte i) (shared (buffer_empty k r.empty i) (r.cleared i) k.check)
 
 dry_tick : (w : Which) (c : Chip) → RunsDry w c
     → let k = (chan w c).sender.shared in
-    ticked_of w c ≡ start_check (shared k.buffer false true k.check)
+    ticked_of w c ≡ start_check (shared None true k.check)
 dry_tick w c r =
     let k = (chan w c).sender.shared in
     let g = (side_of w c).heeds.syncing in
     ap (λ (s : Sends). tick_block g s.unit s.shared) (dry_side w c r)
-    ∙ check_begins g r.settings.syncing k.buffer k.check r.last
+    ∙ check_begins g r.settings.syncing k.check r.last
 
 pub latch_shown : LatchShown
 unfolding line_of
@@ -50,5 +51,5 @@ latch_shown w c r =
       shown = λ n p.
           let d = (happens c (Transmit (number w))).chip in
           shows_read w d (tick_pointer w c ∙ p) set
-          (tick_shown w c (unlatched_shows (chan w c).status n) set);
+          (tick_shown w c (unlatched_shows (chan w c).status (ap is_some n)) set);
     }

@@ -1,6 +1,6 @@
 -- The sender's half, over stories in which everything else may happen too, for either channel of
 -- any chip and both polynomials. Proofs: Block, Shown, Chain. Assumes nothing.
-use Rattle.std.specs.Prelude.{◌≡◌, true, false, List, [], ◌∷◌, ◌++◌, ℕ, ◌+◌, ◌*◌, ◌≤◌, length, take}
+use Rattle.std.specs.Prelude.{◌≡◌, true, false, List, [], ◌∷◌, ◌++◌, ℕ, ◌+◌, ◌*◌, ◌≤◌, length, take, None}
 use Rattle.line.specs.Bits.{low_bits}
 use Rattle.line.specs.Check.{top, shifted}
 use Rattle.shared.specs.Preset.{zeros}
@@ -88,7 +88,7 @@ pub record CheckBegins (w : Which) (c d : Chip) : Type 0 where
   pub line : line_of w c (Transmit (number w) ∷ []) ≡ top (chan w c).sender.shared.check ∷ []
   pub unit : (chan w d).sender.block ≡ Check 15 (shifted (chan w c).sender.shared.check)
   pub set : latch_of w d ≡ true
-  pub shown : (chan w c).status.latched ≡ false → (chan w c).pointer ≡ 0 → d6 w d ≡ true
+  pub shown : (chan w c).status.latched ≡ None → (chan w c).pointer ≡ 0 → d6 w d ≡ true
 
 abbrev pub LatchShown : Type 0
 LatchShown =

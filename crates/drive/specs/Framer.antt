@@ -2,6 +2,7 @@
 -- its other parts, once a byte waits that no tick has loaded yet. That this is what they leave is
 -- said in proofs/Laws/Framer. Assumes nothing.
 use Rattle.std.specs.Prelude.{Bool, not, ◌&&◌}
+use Rattle.shared.specs.Shared.{full}
 use Rattle.sdlc.specs.declared.Framer.{Framer}
 use Rattle.sender.specs.Sender.{framer_in}
 use Rattle.settings.specs.Settings.{transmit_on}
@@ -23,7 +24,7 @@ channel_with a s =
     let live = live_of a in
     let status = noticed a.status live (with_underrun live s.shared.latch) in
     with_transmit (with_status (with_sender a (framer_in a.sender s)) status)
-    (not s.shared.full && transmit_on a.registers.wr1)
+    (not (full s.shared) && transmit_on a.registers.wr1)
 
 abbrev pub chip_with : Chip → Framer → Chip
 chip_with c s = with_a c (channel_with c.a s)

@@ -3,6 +3,7 @@
 -- SDLC.", in Monosync and in Bisync. Word by word, and what no word names is kept. Assumes nothing.
 use Rattle.std.specs.Prelude.{◌≡◌, false, ℕ}
 use Rattle.common.specs.Mode.{synchronous}
+use Rattle.shared.specs.Shared.{full}
 use Rattle.asynchronous.specs.Sending.{no_character}
 use Rattle.asynchronous.specs.Hearing.{no_assembly}
 use Rattle.bytesync.specs.declared.BlockUnit.TheVariants as blocks
@@ -23,7 +24,7 @@ pub record ModeChanged (v : ℕ) (was is : Channel) : Type 0 where
   pub block : is.sender.block ≡ blocks.Mark
   -- "keeps buffer and queue", and with the queue RR1 D4 and D5
   pub buffer : is.sender.shared.buffer ≡ was.sender.shared.buffer
-  pub full : is.sender.shared.full ≡ was.sender.shared.full
+  pub full : full is.sender.shared ≡ full was.sender.shared
   pub queue : is.queue ≡ was.queue
   -- "clears D7"
   pub d7 : is.receiver.broken ≡ false

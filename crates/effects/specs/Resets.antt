@@ -2,9 +2,10 @@
 -- D6, clears D7 and RR1 D4 and D5, arms the first-character interrupt, presets both checks to
 -- ones, ends that channel's pending and in-service sources and unlatches external status." Word
 -- by word, and what is kept. Assumes nothing.
-use Rattle.std.specs.Prelude.{◌≡◌, true, false}
+use Rattle.std.specs.Prelude.{◌≡◌, true, false, None}
 use Rattle.common.specs.declared.Mode.TheVariants.{NoMode}
 use Rattle.line.specs.Check.{ones}
+use Rattle.shared.specs.Shared.{full}
 use Rattle.queue.specs.Queue.{waits}
 use Rattle.interrupts.specs.declared.Sources.{Sources}
 use Rattle.interrupts.specs.Interrupts.{no_sources}
@@ -20,7 +21,7 @@ pub record ResetChannel (lines : Lines) (is : Channel) (served : Sources) : Type
   -- "zeroes the WRs"
   pub registers : is.registers ≡ no_registers
   -- "empties buffer and queue"
-  pub buffer : is.sender.shared.full ≡ false
+  pub buffer : full is.sender.shared ≡ false
   pub queue : waits is.queue ≡ false
   -- "leaves no mode"
   pub mode : mode_in is.registers ≡ NoMode
@@ -37,7 +38,7 @@ pub record ResetChannel (lines : Lines) (is : Channel) (served : Sources) : Type
   pub pending : pending_in is ≡ no_sources
   pub service : served ≡ no_sources
   -- "unlatches external status"
-  pub unlatched : is.status.latched ≡ false
+  pub unlatched : is.status.latched ≡ None
   -- "Channel Reset ignores the other fields."
   pub pointer : is.pointer ≡ 0
   -- DCD and CTS are the world's

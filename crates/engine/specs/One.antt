@@ -1,13 +1,12 @@
 -- 02, P6: "Its line, its zero count and its refusals must equal the first writer's for every note
 -- and every buffer, untouched bytes included": the two writers are one function. Assumes nothing.
-use Rattle.std.specs.Prelude.{◌≡◌, refl, Bool, true, false, List, ◌++◌, ℕ, ◌-◌, ◌≤◌, ltb, length, take, drop, if◌then◌else◌}
+use Rattle.std.specs.Prelude.{◌≡◌, refl, Bool, true, false, List, ◌++◌, ℕ, ◌-◌, ◌≤◌, Result, Ok, Err, ltb, length, take, drop, if◌then◌else◌}
 use Rattle.std.proofs.Common.{ap, ap₂, ◌∙◌, arith, ltb-false, length-drop, drop-drop}
+use Rattle.common.specs.declared.Refusal.{Refusal}
 use Rattle.common.specs.declared.Refusal.TheVariants.{NoteLength, NoRoom}
 use Rattle.line.specs.Bits.{cells}
 use Rattle.line.specs.Frame.{frame, zeros_of, ticks_of}
 use Rattle.line.specs.Line.{note_fits}
-use Rattle.zeros.specs.declared.Counted.{Counted}
-use Rattle.zeros.specs.declared.Counted.TheVariants.{Zeros, Refused}
 use Rattle.writer.specs.Writer.{write_of, written_at, buffer_after}
 use Rattle.table.specs.Table.{check_table}
 use Rattle.stamp.specs.Stamp.{stamp_table, four_table}
@@ -17,10 +16,10 @@ use Rattle.lent.specs.Lent.{zeros_stamped, write_by, left_by}
 
 -- what a writer answers, and the whole buffer behind its call
 pub record Written : Type 0 where
-  pub answer : Counted
+  pub answer : Result ℕ Refusal
   pub buffer : List ℕ
 
-abbrev written : Counted → List ℕ → Written
+abbrev written : Result ℕ Refusal → List ℕ → Written
 written answer buffer = record { answer = answer; buffer = buffer }
 
 -- by the bit engine, and by the byte engine with its own tables
@@ -56,9 +55,9 @@ writers_are_one note buffer at =
     go (note_fits (length note)) (ltb (length buffer - at) (ticks_of note))
     (λ e. ltb-false (length buffer - at) (ticks_of note) e)
   where
-    answered : Bool → Bool → ℕ → Counted
+    answered : Bool → Bool → ℕ → Result ℕ Refusal
     answered fit short zeros =
-        if fit then (if short then Refused NoRoom else Zeros zeros) else Refused NoteLength
+        if fit then (if short then Err NoRoom else Ok zeros) else Err NoteLength
 
     laid : ℕ
     laid = zeros_stamped check_table stamp_table four_table (drop at buffer) note
@@ -71,5 +70,5 @@ writers_are_one note buffer at =
     go false short room = refl
     go true true room = refl
     go true false room =
-        ap₂ written (ap Zeros (zeros_same note buffer at (room refl)))
+        ap₂ written (ap Ok (zeros_same note buffer at (room refl)))
         (line_same note buffer at (room refl))

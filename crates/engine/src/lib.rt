@@ -6,16 +6,14 @@ ghost use Rattle.std.specs.Prelude.{◌≡◌};
 ghost use Rattle.line.specs.Frame.{frame};
 ghost use Rattle.writer.specs.Writer.{write_of, buffer_after};
 
+use common::Refusal;
 use lent::write_line_by;
-use zeros::Counted;
+use stamp::Tables;
 
 // The note's frame, one bit per byte, at a place inside the caller's buffer: what writer::write_line does, a byte at a time.
-pub fn write_line(note: &[u8], out: &mut [u8], at: usize) -> Counted
+pub fn write_line(note: &[u8], out: &mut [u8], at: usize) -> Result<usize, Refusal>
     ensures value { result ≡ write_of note.now out.old at }
     ensures out_after { out.new ≡ buffer_after (write_of note.now out.old at) (frame note.now) out.old at }
 {
-    let checks = table::checks();
-    let stamps = stamp::stamps();
-    let fours = stamp::fours();
-    write_line_by(&checks, &stamps, &fours, note, out, at)
+    write_line_by(&Tables::make(), note, out, at)
 }

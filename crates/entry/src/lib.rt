@@ -61,22 +61,22 @@ impl Entry {
     pub fn overran(self) -> Entry
         ensures { result ≡ overran self }
     {
-        let mut e = self;
-        e.overrun = true;
-        e
+        Entry {
+            overrun: true,
+            ..self
+        }
     }
 
     // RR1 with this entry the oldest, all sent, the two latches and D6 being told.
     pub fn rr1_with(self, sent: bool, parity: bool, overrun: bool, error: bool) -> u8
         ensures { result ≡ rr1_with self sent parity overrun error }
     {
-        let d0 = placed(sent, D0);
-        let whole = placed(self.ends, WHOLE);
-        let d4 = placed(parity, D4);
-        let d5 = placed(overrun, D5);
-        let d6 = placed(error, D6);
-        let d7 = placed(self.ends, D7);
-        d0 + whole + d4 + d5 + d6 + d7
+        placed(sent, D0)
+            + placed(self.ends, WHOLE)
+            + placed(parity, D4)
+            + placed(overrun, D5)
+            + placed(error, D6)
+            + placed(self.ends, D7)
     }
 
     // RR1 with D6 the entry's own.

@@ -2,38 +2,22 @@
 // numbers, its refusal, its value, and the registers behind it; last, if not all were played, why. Assumes nothing.
 #![tactic(auto)]
 
-ghost use Rattle.std.specs.Prelude.{◌≡◌};
-ghost use Rattle.script.specs.Step.{step};
-ghost use Rattle.events.specs.Run.{found_at, last_line, behind, told_line};
-ghost use Rattle.events.specs.Run.{played, next};
+ghost use Rattle.std.specs.Prelude.{◌≡◌, ◌+◌, ◌≤◌, length, IfOk};
+ghost use Rattle.chip.specs.Event.{step};
+ghost use Rattle.script.specs.Step.{said};
+ghost use Rattle.events.specs.Run.{found_at, last_line, with_numbers, told_line, played, next};
 
 use chip::{Chip, Outcome};
+use script::Event;
 use text::Line;
-
-// An event's code and arguments, and the place behind it.
-#[derive(Clone, Copy)]
-pub struct Event {
-    pub code: u8,
-    pub x: u8,
-    pub y: u8,
-    pub z: u8,
-    pub behind: usize,
-}
 
 // How a run ends: all was played; an event has an unknown code, or is cut; there are more bytes than are taken.
 #[derive(Clone, Copy)]
-pub enum Ending {
+enum Ending {
     All,
     Unknown,
     Cut,
     TooLong,
-}
-
-// What stands at a place.
-#[derive(Clone, Copy)]
-pub enum Found {
-    Known(Event),
-    Ended(Ending),
 }
 
 // A run's next line, empty where it has ended; the chip behind it, and the place of the next event.
@@ -51,28 +35,25 @@ const LAST_CODE: u8 = 9;
 // No more bytes are taken.
 const LONGEST: usize = 65536;
 
-fn found_at(events: &[u8], at: usize) -> Found
-    ensures { result ≡ found_at events.now at }
+// The event that stands at a place.
+#[tactic(auto, unfolding(crate::specs::Run::found_at))]
+fn found_at(events: &[u8], at: usize) -> Result<Event, Ending>
+    ensures value { result ≡ found_at events.now at }
+    ensures whole { IfOk result (λ e. at + EVENT ≤ length events.now) }
 {
     if events.len() <= at {
-        return Found::Ended(Ending::All);
+        return Err(Ending::All);
     }
     if LONGEST < events.len() {
-        return Found::Ended(Ending::TooLong);
+        return Err(Ending::TooLong);
     }
-    if events.len() - at < EVENT {
-        return Found::Ended(Ending::Cut);
+    let [code, x, y, z, ..] = &events[at..] else {
+        return Err(Ending::Cut);
+    };
+    if LAST_CODE < *code {
+        return Err(Ending::Unknown);
     }
-    if LAST_CODE < events[at] {
-        return Found::Ended(Ending::Unknown);
-    }
-    Found::Known(Event {
-        code: events[at],
-        x: events[at + 1],
-        y: events[at + 2],
-        z: events[at + 3],
-        behind: at + EVENT,
-    })
+    Ok(Event::of(*code, *x, *y, *z))
 }
 
 // The last line, where there is one, with the number of the event at that place, from 1 on.
@@ -91,63 +72,47 @@ fn last_line(e: Ending, at: usize) -> Line
     }
 }
 
-fn wide(x: u8) -> usize
-    ensures { result ≡ x }
+// Numbers, a space behind each.
+fn with_numbers(l: Line, numbers: &[u8]) -> Line
+    ensures { result ≡ with_numbers l numbers.now }
 {
-    x as usize
-}
-
-// What stands behind a number of an event's line, so many being left with it.
-fn behind(left: u8) -> u8
-    ensures { result ≡ behind left }
-{
-    if left == 1 {
-        return b'\n';
-    }
-    b' '
+    numbers
+        .iter()
+        .fold(l, |l, v| l.with_number(usize::from(*v), b' '))
 }
 
 // An event's line.
+#[tactic(auto, unfolding(crate::specs::Run::told_line))]
 fn told_line(o: Outcome) -> Line
     ensures { result ≡ told_line o }
 {
-    let mut l = Line::empty();
-    let mut left: u8 = 7;
-    while 0 < left {
-        l = l.with_number(wide(script::shown(o, 7 - left)), behind(left));
-        left = left - 1;
-    }
-    l
+    let numbers = script::shown(o);
+    with_numbers(Line::empty(), &numbers[..6]).with_number(usize::from(numbers[6]), b'\n')
 }
 
-// An event is played.
-fn played(mut c: Chip, e: Event) -> Told
-    ensures { result ≡ played (step c e.code e.x e.y e.z) e.behind }
+// An event is played, and the next stands there.
+fn played(c: Chip, e: Event, at: usize) -> Told
+    ensures { result ≡ played (step c (said e)) at }
 {
-    let o = script::step(c, e.code, e.x, e.y, e.z);
-    c = o.chip;
+    let o = script::step(c, e);
     Told {
         line: told_line(o),
-        chip: c,
-        at: e.behind,
+        chip: o.chip,
+        at,
     }
 }
 
 // The next line of a run, with its event played; behind the last there is nothing more.
+#[tactic(auto, unfolding(crate::specs::Run::next))]
 pub fn next(c: Chip, events: &[u8], at: usize) -> Told
     ensures { result ≡ next c events.now at }
 {
-    let f = found_at(events, at);
-    match f {
-        Found::Known(e) => {
-            return played(c, e);
-        }
-        Found::Ended(e) => {
-            return Told {
-                line: last_line(e, at),
-                chip: c,
-                at: events.len(),
-            };
-        }
+    match found_at(events, at) {
+        Ok(e) => played(c, e, at + EVENT),
+        Err(e) => Told {
+            line: last_line(e, at),
+            chip: c,
+            at: events.len(),
+        },
     }
 }

@@ -2,6 +2,7 @@
 -- it. It is on, with the check included. Assumes nothing.
 use Rattle.std.specs.Prelude.{Bool, not, ◌&&◌, List, [], ◌∷◌, ℕ, zero, suc, ltb, length, if◌then◌else◌}
 use Rattle.shared.specs.declared.Shared.{Shared}
+use Rattle.shared.specs.Shared.{full}
 use Rattle.sdlc.specs.declared.LineUnit.TheVariants.{Flag}
 use Rattle.sdlc.specs.declared.Framer.{Framer}
 use Rattle.sdlc.specs.Sending.{not_counted, framer, checking, tick_sdlc}
@@ -10,7 +11,7 @@ use Rattle.feed.specs.declared.Run.{Run}
 
 -- RR0 "D2 transmit buffer empty and no check being sent"
 abbrev pub takes_byte : Framer → Bool
-takes_byte s = not s.shared.full && not (checking s.unit)
+takes_byte s = not (full s.shared) && not (checking s.unit)
 
 -- the sender before a tick, and what is still to be written then
 pub record Supplied : Type 0 where
@@ -52,7 +53,7 @@ flag_sent k = framer (Flag 0) not_counted k
 
 -- the first byte waits
 abbrev pub begins : Shared → Bool
-begins k = k.full && not k.latch
+begins k = full k && not k.latch
 
 -- 01, refusal 6: a note has at most 2,048 bytes, of which one waits
 abbrev pub most_to_write : ℕ

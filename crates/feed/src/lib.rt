@@ -54,27 +54,22 @@ fn sending() -> Framing
 fn takes_byte(s: Framer) -> bool
     ensures { result ≡ takes_byte s }
 {
-    let u = s.unit;
-    !s.shared.full & !u.checking()
+    s.shared.buffer.is_none() & !s.unit.checking()
 }
 
 // The next byte, if there is one and the buffer takes it.
+#[tactic(auto, unfolding(crate::specs::Turns::supply_at), using(common::specs::Tools::tests))]
 fn supply_at(s: Framer, rest: &[u8], i: usize) -> Place
     ensures { result ≡ supply_at s rest.now i }
 {
-    if i < rest.len() {
-        if takes_byte(s) {
-            let unit = s.unit;
-            let insertion = s.insertion;
-            return Place {
-                framer: Framer {
-                    unit,
-                    insertion,
-                    shared: s.shared.filled(rest[i]),
-                },
-                at: i + 1,
-            };
-        }
+    if i < rest.len() && takes_byte(s) {
+        return Place {
+            framer: Framer {
+                shared: s.shared.filled(rest[i]),
+                ..s
+            },
+            at: i + 1,
+        };
     }
     Place { framer: s, at: i }
 }
@@ -83,54 +78,47 @@ fn supply_at(s: Framer, rest: &[u8], i: usize) -> Place
 fn frame_ended(s: Framer) -> bool
     ensures { result ≡ frame_ended s }
 {
-    let u = s.unit;
-    match u {
-        LineUnit::Mark => false,
-        LineUnit::Flag(n) => s.shared.latch & (n == 0),
-        LineUnit::Byte(_, _) => false,
-        LineUnit::Check(_, _) => false,
-        LineUnit::Abort(_) => false,
-    }
+    s.shared.latch & matches!(s.unit, LineUnit::Flag(0))
 }
 
 // Up to the next look at the buffer: the rest of the byte that is on its way, or one tick.
+#[tactic(auto, unfolding(crate::specs::Turns::turn))]
 fn turn(s: Framer) -> Run
     ensures { result ≡ turn s }
 {
     if within(s) {
         return through(s);
     }
-    let t = tick(s, sending());
-    let framer = t.framer;
-    Run { ticks: 1, framer }
+    Run {
+        ticks: 1,
+        framer: tick(s, sending()).framer,
+    }
 }
 
-// A frame that has begun, to its end.
+// A frame that has begun, to its end: the sender tells when it is there, so this is a while.
 fn to_the_end(s: Framer, rest: &[u8]) -> Run
     requires stage { Stage false s 7 rest.now }
     requires rest_len_bound { length (to_come s rest.now) ≤ 19696 }
     ensures { result ≡ to_the_end s rest.now }
 {
     let mut x = s;
-    let mut i: usize = 0;
-    let mut n: usize = 0;
-    loop {
-        if frame_ended(x) {
-            return Run {
-                ticks: n,
-                framer: x,
-            };
-        }
+    let mut i = 0;
+    let mut n = 0;
+    while !frame_ended(x) {
         let p = supply_at(x, rest, i);
-        let f = p.framer;
+        let t = turn(p.framer);
         i = p.at;
-        let t = turn(f);
         x = t.framer;
-        n = n + t.ticks;
+        n += t.ticks;
+    }
+    Run {
+        ticks: n,
+        framer: x,
     }
 }
 
 // A frame whose first byte waits behind its opening flag, with the bytes that follow it.
+#[tactic(auto, unfolding(crate::specs::Feeding::frame_fed))]
 pub fn feed_frame(k: Shared, rest: &[u8]) -> Run
     ensures { result ≡ frame_fed k rest.now }
 {
@@ -139,7 +127,8 @@ pub fn feed_frame(k: Shared, rest: &[u8]) -> Run
         insertion: not_counted(),
         shared: k,
     };
-    if (k.full & !k.latch) & (rest.len() < LONGEST_NOTE) {
+    let begins = k.buffer.is_some() & !k.latch;
+    if begins & (rest.len() < LONGEST_NOTE) {
         return to_the_end(s, rest);
     }
     Run {

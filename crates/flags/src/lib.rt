@@ -3,7 +3,6 @@
 #![tactic(auto)]
 
 ghost use Rattle.std.specs.Prelude.{◌≡◌, length};
-ghost use Rattle.flags.specs.declared.Between.TheVariants.{SharedFlag};
 ghost use Rattle.flags.specs.Flags.{usual, own_flag, in_all};
 
 // What stands between two notes: one flag that both closes and opens, or a closing and an opening one.
@@ -15,20 +14,6 @@ pub enum Between {
 
 // A flag's ticks.
 pub const FLAG: usize = 8;
-
-// The sum of the notes' ticks, less those of the flags that two notes share.
-fn less_shared(sum: usize, notes: usize) -> usize
-    ensures { result ≡ in_all SharedFlag sum notes }
-{
-    if notes == 0 {
-        return sum;
-    }
-    let shared = notes - 1;
-    if sum / FLAG < shared {
-        return 0;
-    }
-    sum - FLAG * shared
-}
 
 impl Between {
     // What the list program does if nothing else is asked for.
@@ -48,12 +33,14 @@ impl Between {
         }
     }
 
-    // The ticks of so many notes, one behind the other, from the sum of theirs.
+    // The ticks of so many notes, one behind the other, from the sum of theirs; a shared flag counts once.
     pub fn in_all(self, sum: usize, notes: usize) -> usize
         ensures { result ≡ in_all self sum notes }
     {
         match self {
-            Between::SharedFlag => less_shared(sum, notes),
+            Between::SharedFlag => {
+                sum.saturating_sub(FLAG.saturating_mul(notes.saturating_sub(1)))
+            }
             Between::TwoFlags => sum,
         }
     }

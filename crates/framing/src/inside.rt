@@ -10,17 +10,21 @@ use sdlc::{Framed, Framer};
 pub fn within(f: Framer) -> bool
     ensures { result ≡ within f }
 {
-    let u = f.unit;
-    u.byte_left() != 0
+    f.unit.byte_left() != 0
 }
 
 // The tick, if so.
+#[tactic(auto, unfolding(sdlc::specs::Within::tick_within))]
 pub fn tick_within(f: Framer) -> Framed
     ensures { result ≡ tick_within f }
 {
     if f.insertion.owed {
         return owed_zero(f);
     }
-    let u = f.unit;
-    byte_on(u.byte_left(), u.byte_rest(), f.insertion.run, f.shared)
+    byte_on(
+        f.unit.byte_left(),
+        f.unit.byte_rest(),
+        f.insertion.run,
+        f.shared,
+    )
 }

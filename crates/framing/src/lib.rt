@@ -3,8 +3,8 @@
 
 mod inside;
 
-ghost use Rattle.std.specs.Prelude.{◌≡◌, false, ◌-◌};
-ghost use Rattle.sdlc.specs.Sending.{start_mark, start_flag, start_byte, start_check, following, going, tick_sdlc};
+ghost use Rattle.std.specs.Prelude.{◌≡◌, false};
+ghost use Rattle.sdlc.specs.Sending.{start_mark, start_flag, start_byte, start_check, underrun, following, going, tick_sdlc};
 ghost use Rattle.sdlc.specs.Sending.{sent_bit, paid, no_bit_left, goes_on, byte_on, check_on, cut_short, aborted_by};
 
 pub use crate::inside::{tick_within, within};
@@ -40,10 +40,10 @@ fn start_flag(k: Shared) -> Framed
     sent_bit(false, LineUnit::Flag(7), not_counted(), k)
 }
 
-fn start_byte(g: Framing, run: u8, k: Shared) -> Framed
-    ensures { result ≡ start_byte g run k }
+// v waited in the buffer.
+fn start_byte(g: Framing, run: u8, v: u8, k: Shared) -> Framed
+    ensures { result ≡ start_byte g run v k }
 {
-    let v = k.buffer;
     let b = v % 2 == 1;
     Framed {
         bit: b,
@@ -51,7 +51,7 @@ fn start_byte(g: Framing, run: u8, k: Shared) -> Framed
         framer: Framer {
             unit: LineUnit::Byte(7, v / 2),
             insertion: Insertion::counted(run, b),
-            shared: k.entered(SDLC, g.included).emptied(),
+            shared: k.entered(v, SDLC, g.included).emptied(),
         },
     }
 }
@@ -69,35 +69,31 @@ fn start_check(run: u8, k: Shared) -> Framed
     )
 }
 
+// Behind a byte, with none to follow.
+fn underrun(g: Framing, run: u8, k: Shared) -> Framed
+    ensures { result ≡ underrun g run k }
+{
+    if !k.latch & g.included {
+        return start_check(run, k.latched());
+    }
+    start_flag(k.latched())
+}
+
 // The unit that follows this one, while on.
+#[tactic(auto, unfolding(sdlc::specs::Sending::following))]
 fn following(g: Framing, u: LineUnit, run: u8, k: Shared) -> Framed
     ensures { result ≡ following g u run k }
 {
     match u {
-        LineUnit::Mark => {
-            return start_flag(k);
-        }
-        LineUnit::Flag(_) => {
-            if k.full {
-                return start_byte(g, run, k);
-            }
-            return start_flag(k);
-        }
-        LineUnit::Byte(_, _) => {
-            if k.full {
-                return start_byte(g, run, k);
-            }
-            if !k.latch & g.included {
-                return start_check(run, k.latched());
-            }
-            return start_flag(k.latched());
-        }
-        LineUnit::Check(_, _) => {
-            return start_flag(k);
-        }
-        LineUnit::Abort(_) => {
-            return start_flag(k);
-        }
+        LineUnit::Flag(_) => match k.buffer {
+            Some(v) => start_byte(g, run, v, k),
+            None => start_flag(k),
+        },
+        LineUnit::Byte(_, _) => match k.buffer {
+            Some(v) => start_byte(g, run, v, k),
+            None => underrun(g, run, k),
+        },
+        LineUnit::Mark | LineUnit::Check(_, _) | LineUnit::Abort(_) => start_flag(k),
     }
 }
 
@@ -107,21 +103,9 @@ fn no_bit_left(u: LineUnit) -> bool
 {
     match u {
         LineUnit::Mark => true,
-        LineUnit::Flag(n) => n == 0,
-        LineUnit::Byte(n, _) => n == 0,
-        LineUnit::Check(n, _) => n == 0,
-        LineUnit::Abort(n) => n == 0,
+        LineUnit::Flag(n) | LineUnit::Byte(n, _) | LineUnit::Check(n, _) | LineUnit::Abort(n) => n
+            == 0,
     }
-}
-
-// One less; none is left of none.
-fn less_one(n: u8) -> u8
-    ensures { result ≡ n - 1 }
-{
-    if n == 0 {
-        return 0;
-    }
-    n - 1
 }
 
 // The next bit of a byte and of a check, all but the first.
@@ -131,7 +115,7 @@ fn byte_on(n: u8, v: u8, run: u8, k: Shared) -> Framed
     let b = v % 2 == 1;
     sent_bit(
         b,
-        LineUnit::Byte(less_one(n), v / 2),
+        LineUnit::Byte(n.saturating_sub(1), v / 2),
         Insertion::counted(run, b),
         k,
     )
@@ -143,7 +127,7 @@ fn check_on(n: u8, v: u16, run: u8, k: Shared) -> Framed
     let b = v / 32768 % 2 == 1;
     sent_bit(
         b,
-        LineUnit::Check(less_one(n), v % 32768 * 2),
+        LineUnit::Check(n.saturating_sub(1), v % 32768 * 2),
         Insertion::counted(run, b),
         k,
     )
@@ -157,17 +141,23 @@ fn goes_on(u: LineUnit, run: u8, k: Shared) -> Framed
         LineUnit::Mark => start_mark(k),
         LineUnit::Flag(n) => sent_bit(
             (n != 8) & (n != 1),
-            LineUnit::Flag(less_one(n)),
+            LineUnit::Flag(n.saturating_sub(1)),
             not_counted(),
             k,
         ),
         LineUnit::Byte(n, v) => byte_on(n, v, run, k),
         LineUnit::Check(n, v) => check_on(n, v, run, k),
-        LineUnit::Abort(n) => sent_bit(true, LineUnit::Abort(less_one(n)), not_counted(), k),
+        LineUnit::Abort(n) => sent_bit(
+            true,
+            LineUnit::Abort(n.saturating_sub(1)),
+            not_counted(),
+            k,
+        ),
     }
 }
 
 // The next bit of the unit, or of the one that follows it.
+#[tactic(auto, unfolding(sdlc::specs::Sending::going))]
 fn going(g: Framing, u: LineUnit, run: u8, k: Shared) -> Framed
     ensures { result ≡ going g u run k }
 {
@@ -184,21 +174,22 @@ fn going(g: Framing, u: LineUnit, run: u8, k: Shared) -> Framed
 fn owed_zero(f: Framer) -> Framed
     ensures { result ≡ sent_bit false f.unit (paid f.insertion) f.shared }
 {
-    let u = f.unit;
-    let mut i = f.insertion;
-    i.owed = false;
-    sent_bit(false, u, i, f.shared)
+    let insertion = Insertion {
+        owed: false,
+        ..f.insertion
+    };
+    sent_bit(false, f.unit, insertion, f.shared)
 }
 
 // One transmit tick.
+#[tactic(auto, unfolding(sdlc::specs::Sending::tick_sdlc))]
 pub fn tick(f: Framer, g: Framing) -> Framed
     ensures { result ≡ tick_sdlc g f }
 {
     if f.insertion.owed {
         return owed_zero(f);
     }
-    let u = f.unit;
-    going(g, u, f.insertion.run, f.shared)
+    going(g, f.unit, f.insertion.run, f.shared)
 }
 
 // An abort of eight ones in place of all that was to be sent.
@@ -216,8 +207,7 @@ fn cut_short(f: Framer) -> Framer
 pub fn send_abort(f: Framer, g: Framing) -> Framer
     ensures { result ≡ aborted_by g f }
 {
-    let u = f.unit;
-    if g.on & !u.aborting() {
+    if g.on & !f.unit.aborting() {
         return cut_short(f);
     }
     f

@@ -7,14 +7,7 @@ ghost use Rattle.heading.specs.Heading.{heading_of, with_body, with_checked_body
 
 use common::Refusal;
 use joining::{CheckRule, check_of, check_text, joined};
-use line::{LONGEST_NOTE, ONES, SDLC, note_fits};
-
-// The check of a note, as SDLC sends it, or why it has none.
-#[derive(Clone, Copy)]
-pub enum NoteCheck {
-    Check(u16),
-    Refused(Refusal),
-}
+use line::{ONES, SDLC, note_fits};
 
 // What notes begin with: its check, as SDLC sends it, and its bytes.
 #[derive(Clone, Copy)]
@@ -27,13 +20,7 @@ pub struct Heading {
 fn fit_together(heading: usize, body: usize) -> bool
     ensures { result ≡ note_fits (heading + body) }
 {
-    if LONGEST_NOTE < heading {
-        return false;
-    }
-    if LONGEST_NOTE < body {
-        return false;
-    }
-    note_fits(heading + body)
+    note_fits(heading.saturating_add(body))
 }
 
 impl Heading {
@@ -47,23 +34,25 @@ impl Heading {
         }
     }
 
-    // The check of the note that is this heading and a body: the body's text is gone on with from the heading's check.
-    pub fn with_body(self, body: &[u8]) -> NoteCheck
+    // The check of the note that is this heading and a body, as SDLC sends it: the body's text is gone on with from the heading's check.
+    #[tactic(auto, unfolding(crate::specs::Heading::with_body))]
+    pub fn with_body(self, body: &[u8]) -> Result<u16, Refusal>
         ensures { result ≡ with_body self body.now }
     {
-        if fit_together(self.length, body.len()) {
-            return NoteCheck::Check(check_text(SDLC, self.check ^ ONES, body) ^ ONES);
+        if !fit_together(self.length, body.len()) {
+            return Err(Refusal::NoteLength);
         }
-        NoteCheck::Refused(Refusal::NoteLength)
+        Ok(check_text(SDLC, self.check ^ ONES, body) ^ ONES)
     }
 
     // The same where a body's check and its bytes are at hand, and not its text.
-    pub fn with_checked_body(self, body: u16, k: usize) -> NoteCheck
+    #[tactic(auto, unfolding(crate::specs::Heading::with_checked_body))]
+    pub fn with_checked_body(self, body: u16, k: usize) -> Result<u16, Refusal>
         ensures { result ≡ with_checked_body self body k }
     {
-        if fit_together(self.length, k) {
-            return NoteCheck::Check(joined(CheckRule::sdlc(), self.check, body, k));
+        if !fit_together(self.length, k) {
+            return Err(Refusal::NoteLength);
         }
-        NoteCheck::Refused(Refusal::NoteLength)
+        Ok(joined(CheckRule::sdlc(), self.check, body, k))
     }
 }

@@ -1,7 +1,7 @@
 -- The host that comes too late: behind the tick that finds the line dry nothing is loaded until the
 -- frame is closed, so it is the frame of the bytes loaded so far; and the incident. Assumes
 -- nothing.
-use Rattle.std.specs.Prelude.{◌≡◌, refl, true, false, ◌&&◌, List, [], ◌∷◌, ◌++◌, ℕ, length}
+use Rattle.std.specs.Prelude.{◌≡◌, refl, true, false, ◌&&◌, List, [], ◌∷◌, ◌++◌, ℕ, length, None}
 use Rattle.std.proofs.Common.{sym, ap, ap₂, ◌∙◌, subst, append_assoc, append-nil, arith, length-append}
 use Rattle.common.specs.Tools.{void}
 use Rattle.line.specs.Bits.{Below, below_none, below_more}
@@ -10,6 +10,7 @@ use Rattle.line.specs.Insertion.{owes, run_after}
 use Rattle.line.specs.Frame.{frame}
 use Rattle.line.specs.Laws.Frame.{frame_same}
 use Rattle.shared.specs.Shared.{shared}
+use Rattle.shared.specs.Laws.Buffer.{buffer_empty}
 use Rattle.sdlc.specs.declared.LineUnit.TheVariants.{Byte, Check}
 use Rattle.sdlc.specs.declared.Framer.{Framer}
 use Rattle.sdlc.specs.declared.Framed.{Framed}
@@ -75,14 +76,14 @@ module _ (w : Which) (c : Chip) (d : RunsDry w c) where
   dried =
       let s = (chan w c).sender in
       framer (Byte 0 d.last) (insertion s.insertion.run false)
-      (shared s.shared.buffer false false s.shared.check)
+      (shared None false s.shared.check)
 
   dry_side : side_of w c ≡ side dried good
   dry_side =
       let s = (chan w c).sender in
       let h = good_heeded (sending_in (chan w c)) d.settings in
       λ i. side (framer (d.byte i) (insertion s.insertion.run (d.paid i))
-      (shared s.shared.buffer (d.empty i) (d.cleared i) s.shared.check)) (h i)
+      (shared (buffer_empty s.shared d.empty i) (d.cleared i) s.shared.check)) (h i)
 
   abbrev checked : Framer
   checked =
@@ -90,12 +91,12 @@ module _ (w : Which) (c : Chip) (d : RunsDry w c) where
       let y = complement s.shared.check in
       let r = s.insertion.run in
       framer (Check 15 (shifted y)) (insertion (run_after r (top y)) (owes r (top y)))
-      (shared s.shared.buffer false true s.shared.check)
+      (shared None true s.shared.check)
 
   dry_ticks : side_of w (happens c (Transmit (number w))).chip ≡ side checked good
   dry_ticks =
       let s = (chan w c).sender in
-      let k = shared s.shared.buffer false false s.shared.check in
+      let k = shared None false s.shared.check in
       let r = s.insertion.run in
       let e : ticked_of w c ≡ framed (top (complement s.shared.check)) false checked =
       ap (λ (x : SenderSide). tick_sdlc come.good x.sender) dry_side
@@ -110,7 +111,7 @@ module _ (w : Which) (c : Chip) (d : RunsDry w c) where
   dry_none ys h =
       let was = ap (λ (x : SenderSide). x.sender) dry_side in
       let is = ap (λ (x : SenderSide). x.sender) dry_ticks in
-      let k = kept w h checked dry_ticks (in_check _ _ _ _ _ _ _) in (
+      let k = kept w h checked dry_ticks (in_check _ _ _ _ _ _) in (
         tick_loaded w c ys dried checked was is ∙ k.may_be.1,
         tick_passed w c ys dried was
             ∙ k.may_be.0,

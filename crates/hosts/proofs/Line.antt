@@ -1,6 +1,6 @@
 -- Every host's line: what was sent and what would come, if nothing more were loaded, are the frame
 -- of the bytes loaded, at every moment. One induction over the story. Assumes nothing.
-use Rattle.std.specs.Prelude.{◌≡◌, refl, Bool, true, false, ◌&&◌, ℕ, zero, suc, ◌+◌, ◌-◌, ◌*◌, ◌≤◌, length, take}
+use Rattle.std.specs.Prelude.{◌≡◌, refl, Bool, true, false, ◌&&◌, ℕ, zero, suc, ◌+◌, ◌-◌, ◌*◌, ◌≤◌, length, take, Some, None}
 use Rattle.std.proofs.Common.{sym, ap, ap₂, ◌∙◌, subst, arith, length-append, take_at}
 use mathlib.Core.List.{List, [], ◌∷◌, ◌++◌, append_assoc, append-nil}
 use Rattle.std.proofs.Math.Dec.{eqb-suc-zero}
@@ -81,16 +81,16 @@ pub record Kept (w : Which) (c : Chip) (st : List Event) (s : Framer) : Type 0 w
   pub few : flag_left s.unit ≤ 7 → 8 * passed w c st + flag_left s.unit ≤ ticks w st + 7
 
 going_filled : {s : Framer} (v : ℕ) → Going s → Going (filled_with s v)
-going_filled v (opening k b f c) = opening k v true c
-going_filled v (in_byte k x r o b f c) = in_byte k x r o v true c
-going_filled v (in_check k x r o b f c) = in_check k x r o v true c
-going_filled v (closing k b f c) = closing k v true c
+going_filled v (opening k b c) = opening k (Some v) c
+going_filled v (in_byte k x r o b c) = in_byte k x r o (Some v) c
+going_filled v (in_check k x r o b c) = in_check k x r o (Some v) c
+going_filled v (closing k b c) = closing k (Some v) c
 
 none_yet : {s : Framer} → Going s → May s 0 []
-none_yet (opening k b f c) = tt
-none_yet (in_byte k x r o b f c) = refl
-none_yet (in_check k x r o b f c) = (refl, refl)
-none_yet (closing k b f c) = (refl, refl)
+none_yet (opening k b c) = tt
+none_yet (in_byte k x r o b c) = refl
+none_yet (in_check k x r o b c) = (refl, refl)
+none_yet (closing k b c) = (refl, refl)
 
 -- an event that is no tick, from what is so behind it; it changes no more of the sender than its
 -- buffer
@@ -196,10 +196,10 @@ flags_swap zero xs = refl
 flags_swap (suc n) xs = ap (λ (l : List Bool). flag_bits ++ l) (flags_swap n xs)
 
 -- what comes at the start is the frame less the bits that are sent
-at_start : (p b n : ℕ) (bytes : List ℕ) → 1 ≤ p → p ≤ 8
-    → flag_head p ++ ahead (started p b) n bytes ≡ flags n ++ frame bytes
+at_start : (p n : ℕ) (bytes : List ℕ) → 1 ≤ p → p ≤ 8
+    → flag_head p ++ ahead (started p) n bytes ≡ flags n ++ frame bytes
 unfolding come.closed
-at_start p b n bytes h l =
+at_start p n bytes h l =
     let rest = flags n ++ come.closed 0 ones [] bytes in
     sym (append_assoc (flag_head p) (flag_tail (8 - p)) rest)
     ∙ ap (λ (x : List Bool). x ++ rest) (head_tail p h l)
@@ -208,41 +208,40 @@ at_start p b n bytes h l =
 -- nothing comes behind the closing flag
 pub ended_none : {s : Framer} → Going s → frame_ended s ≡ true
     → (ahead s 0 [] ≡ []) × (unopened s ≡ false)
-ended_none (opening k b f c) e = void e
-ended_none (in_byte k x r o b f c) e = void e
-ended_none (in_check k x r o b f c) e = void e
-ended_none (closing zero b f c) e = (refl, refl)
-ended_none (closing (suc k) b f c) e = void (sym (eqb-suc-zero k) ∙ e)
+ended_none (opening k b c) e = void e
+ended_none (in_byte k x r o b c) e = void e
+ended_none (in_check k x r o b c) e = void e
+ended_none (closing zero b c) e = (refl, refl)
+ended_none (closing (suc k) b c) e = void (sym (eqb-suc-zero k) ∙ e)
 
 not_aborting : {s : Framer} → Going s → aborting s.unit ≡ false
-not_aborting (opening k b f c) = refl
-not_aborting (in_byte k x r o b f c) = refl
-not_aborting (in_check k x r o b f c) = refl
-not_aborting (closing k b f c) = refl
+not_aborting (opening k b c) = refl
+not_aborting (in_byte k x r o b c) = refl
+not_aborting (in_check k x r o b c) = refl
+not_aborting (closing k b c) = refl
 
 -- and something before its end
 unended_some : {s : Framer} → Going s → frame_ended s ≡ false → 1 ≤ length (ahead s 0 [])
-unended_some (opening zero b f c) e = unfold flags in (omega (arith, closed_some 0 c [] []))
-unended_some (opening (suc k) b f c) e = omega arith
-unended_some (in_byte k v r o b f c) e =
+unended_some (opening zero b c) e = unfold flags in (omega (arith, closed_some 0 c [] []))
+unended_some (opening (suc k) b c) e = omega arith
+unended_some (in_byte k v r o b c) e =
     let bits = come.closed r c (low_bits k v) [] in
     omega (arith, length-append (zero_if o) bits, closed_some r c (low_bits k v) [])
-unended_some (in_check k v r o b f c) e =
+unended_some (in_check k v r o b c) e =
     let bits = stuff r (top_bits k v) in
     omega (arith, length-append (zero_if o) (bits ++ flag_bits), length-append bits flag_bits)
-unended_some (closing (suc k) b f c) e = omega arith
-unended_some (closing zero b f c) e = void (sym e)
+unended_some (closing (suc k) b c) e = omega arith
+unended_some (closing zero b c) e = void (sym e)
 
 pub every_host : EveryHost
 every_host w c p st s h =
-    let b = (chan w c).sender.shared.buffer in
-    let k = kept w h (started p b) (start_side w c p s) (opening (8 - p) b false ones) in
+    let k = kept w h (started p) (start_side w c p s) (opening (8 - p) None ones) in
     let sent = flag_head p ++ line_of w c st in
     let rest = ahead k.last 0 [] in
     let q : sent ++ rest ≡ flags (passed w c st) ++ frame (loaded w c st) =
     append_assoc (flag_head p) (line_of w c st) rest
     ∙ ap (λ (l : List Bool). flag_head p ++ l) k.whole
-    ∙ at_start p b (passed w c st) (loaded w c st) s.some s.inside in
+    ∙ at_start p (passed w c st) (loaded w c st) s.some s.inside in
     let there = ap (λ (x : SenderSide). frame_ended x.sender) k.there in
     record {
       begun =

@@ -1,7 +1,7 @@
 -- One tick of a sender within a frame, whatever waits in its buffer: what comes on the line is
 -- given by the bytes that will be loaded and by the flags that will pass before the first of them.
 -- Assumes nothing.
-use Rattle.std.specs.Prelude.{◌≡◌, Bool, true, false, not, ◌&&◌, List, [], ◌∷◌, ◌++◌, ℕ, zero, suc, ◌+◌, ◌*◌, ◌/◌, ◌≤◌, if◌then◌else◌}
+use Rattle.std.specs.Prelude.{◌≡◌, Bool, true, false, not, ◌&&◌, List, [], ◌∷◌, ◌++◌, ℕ, zero, suc, ◌+◌, ◌*◌, ◌/◌, ◌≤◌, if◌then◌else◌, Option, Some, None}
 use Rattle.std.proofs.Math.Path.{refl, sym}
 use Rattle.std.proofs.Common.{ap, ap₂, ◌∙◌, subst, arith}
 use Rattle.std.proofs.Math.Dec.{eqb-suc-zero}
@@ -12,7 +12,7 @@ use Rattle.line.specs.Insertion.{owes, run_after, zero_if, stuff}
 use Rattle.line.specs.Frame.{flag_bits}
 use Rattle.line.specs.declared.Insertion.{Insertion}
 use Rattle.shared.specs.declared.Shared.{Shared}
-use Rattle.shared.specs.Shared.{shared}
+use Rattle.shared.specs.Shared.{shared, full, waiting_byte}
 use Rattle.sdlc.specs.declared.LineUnit.{LineUnit}
 use Rattle.sdlc.specs.declared.LineUnit.TheVariants.{Mark, Flag, Byte, Check, Abort}
 use Rattle.sdlc.specs.declared.Framer.{Framer}
@@ -28,12 +28,12 @@ use Rattle.hosts.specs.Loaded.{byte_if, leaves, flag_over, idles, on_more, flags
 
 -- the senders of a frame
 pub data Going : Framer → Type 0 where
-  opening : (k b : ℕ) (f : Bool) (c : ℕ) → Going (framer (Flag k) not_counted (shared b f false c))
-  in_byte : (k v r : ℕ) (o : Bool) (b : ℕ) (f : Bool) (c : ℕ)
-      → Going (framer (Byte k v) (insertion r o) (shared b f false c))
-  in_check : (k v r : ℕ) (o : Bool) (b : ℕ) (f : Bool) (c : ℕ)
-      → Going (framer (Check k v) (insertion r o) (shared b f true c))
-  closing : (k b : ℕ) (f : Bool) (c : ℕ) → Going (framer (Flag k) not_counted (shared b f true c))
+  opening : (k : ℕ) (b : Option ℕ) (c : ℕ) → Going (framer (Flag k) not_counted (shared b false c))
+  in_byte : (k v r : ℕ) (o : Bool) (b : Option ℕ) (c : ℕ)
+      → Going (framer (Byte k v) (insertion r o) (shared b false c))
+  in_check : (k v r : ℕ) (o : Bool) (b : Option ℕ) (c : ℕ)
+      → Going (framer (Check k v) (insertion r o) (shared b true c))
+  closing : (k : ℕ) (b : Option ℕ) (c : ℕ) → Going (framer (Flag k) not_counted (shared b true c))
 
 -- what comes, if n more flags pass and then these bytes are loaded
 abbrev pub comes : Insertion → Bool → ℕ → ℕ → List ℕ → LineUnit → List Bool
@@ -100,7 +100,7 @@ pub record Steps (s : Framer) : Type 0 where
   pub inside : flag_left s.unit ≤ 7 → flag_left next.unit ≤ 7
   pub few : (n t : ℕ) (bytes : List ℕ) → May next n bytes → 8 * n + flag_left next.unit ≤ t + 7
       → flag_left s.unit ≤ 7 → 8 * on_more (idles s) n + flag_left s.unit ≤ suc t + 7
-  pub first : unopened s ≡ true → unopened next ≡ false → leaves s next ≡ s.shared.buffer ∷ []
+  pub first : unopened s ≡ true → unopened next ≡ false → leaves s next ≡ waiting_byte s.shared ∷ []
 
 -- A tick that leaves the buffer and the latch as they are, and lets no flag pass
 
@@ -126,8 +126,8 @@ kept_buffer : {u v : LineUnit} {i j : Insertion} {x : Shared} {sent : Bool}
 kept_buffer {u} {v} {i} {j} {x} {sent} ticks going within may_be head inside one_less opens =
     let was : Framer = framer u i x in
     let is : Framer = framer v j x in
-    let none : leaves was is ≡ [] = none_leaves x.full x.buffer in
-    let same : idles was ≡ false = none_passes x.latch x.full (flag_over u) within in
+    let none : leaves was is ≡ [] = none_leaves (full x) (waiting_byte x) in
+    let same : idles was ≡ false = none_passes x.latch (full x) (flag_over u) within in
     record {
       sent = sent;
       load = false;
@@ -150,19 +150,19 @@ kept_buffer {u} {v} {i} {j} {x} {sent} ticks going within may_be head inside one
 
 pub steps : {s : Framer} → Going s → frame_ended s ≡ false → Steps s
 unfolding flags
-steps (opening (suc k) b f c) e =
-    kept_buffer (tick_flag good (shared b f false c) k 0) (opening k b f c) (λ l. eqb-suc-zero k)
+steps (opening (suc k) b c) e =
+    kept_buffer (tick_flag good (shared b false c) k 0) (opening k b c) (λ l. eqb-suc-zero k)
     (λ n bytes m. tt) (λ n bytes m. refl) (λ h. omega arith) (omega arith) (λ o p. void (sym p))
-steps (opening zero b true c) e =
-    let x = shared b true false c in
+steps (opening zero (Some b) c) e =
+    let x = shared (Some b) false c in
     let d = check_over sdlc c (low_bits 8 b) in
     let i = insertion (run_after 0 (odd b)) (owes 0 (odd b)) in
     record {
       sent = odd b;
       load = true;
-      next = framer (Byte 7 (b / 2)) i (shared b false false d);
+      next = framer (Byte 7 (b / 2)) i (shared None false d);
       ticks = tick_chooses good 0 x (Flag 0) refl ∙ next_flag_full good 0 x refl 0 refl;
-      going = in_byte 7 (b / 2) i.run i.owed b false d;
+      going = in_byte 7 (b / 2) i.run i.owed None d;
       may_be = λ n bytes m. tt;
       head =
           λ n bytes m. ap (λ (j : ℕ). flags j ++ come.closed 0 c [] (b ∷ bytes)) m
@@ -172,14 +172,14 @@ steps (opening zero b true c) e =
       few = λ n t bytes m l h. omega (arith, m);
       first = λ o u. refl;
     }
-steps (opening zero b false c) e =
-    let x = shared b false false c in
+steps (opening zero None c) e =
+    let x = shared None false c in
     record {
       sent = false;
       load = false;
       next = framer (Flag 7) not_counted x;
       ticks = tick_chooses good 0 x (Flag 0) refl ∙ next_flag_empty good 0 x refl 0 refl;
-      going = opening 7 b false c;
+      going = opening 7 None c;
       may_be = λ n bytes m. tt;
       head = λ n bytes m. refl;
       kept = λ rest h. refl;
@@ -187,23 +187,23 @@ steps (opening zero b false c) e =
       few = λ n t bytes m l h. omega arith;
       first = λ o u. void (sym u);
     }
-steps (in_byte k v r true b f c) e =
-    kept_buffer (tick_owed good (shared b f false c) (Byte k v) r) (in_byte k v r false b f c)
+steps (in_byte k v r true b c) e =
+    kept_buffer (tick_owed good (shared b false c) (Byte k v) r) (in_byte k v r false b c)
     (λ l. refl) (λ n bytes m. m) (λ n bytes m. refl) (λ h. h) (omega arith) (λ o p. void o)
-steps (in_byte (suc k) v r false b f c) e =
-    kept_buffer (tick_byte good (shared b f false c) k v r)
-    (in_byte k (v / 2) (run_after r (odd v)) (owes r (odd v)) b f c) (λ l. refl) (λ n bytes m. m)
+steps (in_byte (suc k) v r false b c) e =
+    kept_buffer (tick_byte good (shared b false c) k v r)
+    (in_byte k (v / 2) (run_after r (odd v)) (owes r (odd v)) b c) (λ l. refl) (λ n bytes m. m)
     (λ n bytes m. byte_on_lem r c k v bytes) (λ h. h) (omega arith) (λ o p. void o)
-steps (in_byte zero v r false b true c) e =
-    let x = shared b true false c in
+steps (in_byte zero v r false (Some b) c) e =
+    let x = shared (Some b) false c in
     let d = check_over sdlc c (low_bits 8 b) in
     let i = insertion (run_after r (odd b)) (owes r (odd b)) in
     record {
       sent = odd b;
       load = true;
-      next = framer (Byte 7 (b / 2)) i (shared b false false d);
+      next = framer (Byte 7 (b / 2)) i (shared None false d);
       ticks = tick_chooses good r x (Byte 0 v) refl ∙ next_byte_full good r x refl 0 v refl;
-      going = in_byte 7 (b / 2) i.run i.owed b false d;
+      going = in_byte 7 (b / 2) i.run i.owed None d;
       may_be = λ n bytes m. m;
       head = λ n bytes m. unfold low_bits in (load r c b bytes);
       kept = λ rest h. refl;
@@ -211,17 +211,17 @@ steps (in_byte zero v r false b true c) e =
       few = λ n t bytes m l h. omega (arith, m);
       first = λ o u. void o;
     }
-steps (in_byte zero v r false b false c) e =
-    let x = shared b false false c in
+steps (in_byte zero v r false None c) e =
+    let x = shared None false c in
     let y = complement c in
     let i = insertion (run_after r (top y)) (owes r (top y)) in
     record {
       sent = top y;
       load = false;
-      next = framer (Check 15 (shifted y)) i (shared b false true c);
+      next = framer (Check 15 (shifted y)) i (shared None true c);
       ticks =
           tick_chooses good r x (Byte 0 v) refl ∙ next_byte_check good r x refl 0 v refl refl refl;
-      going = in_check 15 (shifted y) i.run i.owed b false c;
+      going = in_check 15 (shifted y) i.run i.owed None c;
       may_be = λ n bytes m. m.0;
       head = λ n bytes m. unfold low_bits in (ap (come.closed r c []) m.1 ∙ check_starts r c);
       kept = λ rest h. sym (h refl refl);
@@ -229,21 +229,21 @@ steps (in_byte zero v r false b false c) e =
       few = λ n t bytes m l h. omega (arith, m.0);
       first = λ o u. void o;
     }
-steps (in_check k v r true b f c) e =
-    kept_buffer (tick_owed good (shared b f true c) (Check k v) r) (in_check k v r false b f c)
+steps (in_check k v r true b c) e =
+    kept_buffer (tick_owed good (shared b true c) (Check k v) r) (in_check k v r false b c)
     (λ l. refl) (λ n bytes m. m) (λ n bytes m. refl) (λ h. h) (omega arith) (λ o p. void o)
-steps (in_check (suc k) v r false b f c) e =
-    kept_buffer (tick_check good (shared b f true c) k v r)
-    (in_check k (shifted v) (run_after r (top v)) (owes r (top v)) b f c) (λ l. refl)
+steps (in_check (suc k) v r false b c) e =
+    kept_buffer (tick_check good (shared b true c) k v r)
+    (in_check k (shifted v) (run_after r (top v)) (owes r (top v)) b c) (λ l. refl)
     (λ n bytes m. m)
     (λ n bytes m. unfold top_bits in (stuffed r (top v) (top_bits k (shifted v)) flag_bits))
     (λ h. h) (omega arith) (λ o p. void o)
-steps (in_check zero v r false b f c) e =
-    let x = shared b f true c in
+steps (in_check zero v r false b c) e =
+    let x = shared b true c in
     kept_buffer (tick_chooses good r x (Check 0 v) refl ∙ next_check good r x refl 0 v)
-    (closing 7 b f c) (λ l. refl) (λ n bytes m. m) (λ n bytes m. unfold top_bits stuff in refl)
+    (closing 7 b c) (λ l. refl) (λ n bytes m. m) (λ n bytes m. unfold top_bits stuff in refl)
     (λ h. omega arith) (omega arith) (λ o p. void o)
-steps (closing (suc k) b f c) e =
-    kept_buffer (tick_flag good (shared b f true c) k 0) (closing k b f c) (λ l. void (sym l))
+steps (closing (suc k) b c) e =
+    kept_buffer (tick_flag good (shared b true c) k 0) (closing k b c) (λ l. void (sym l))
     (λ n bytes m. m) (λ n bytes m. refl) (λ h. omega arith) (omega arith) (λ o p. void o)
-steps (closing zero b f c) e = void (sym e)
+steps (closing zero b c) e = void (sym e)

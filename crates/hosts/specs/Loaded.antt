@@ -2,6 +2,7 @@
 -- bytes loaded so far". Assumes nothing.
 use Rattle.std.specs.Prelude.{◌≡◌, Bool, true, false, not, ◌&&◌, List, [], ◌∷◌, ◌++◌, ℕ, zero, suc, eqb}
 use Rattle.line.specs.Frame.{flag_bits}
+use Rattle.shared.specs.Shared.{full, waiting_byte}
 use Rattle.sdlc.specs.declared.LineUnit.{LineUnit}
 use Rattle.sdlc.specs.declared.LineUnit.TheVariants.{Mark, Flag, Byte, Check, Abort}
 use Rattle.sdlc.specs.declared.Framer.{Framer}
@@ -22,7 +23,7 @@ byte_if false v = []
 
 -- the byte that leaves the buffer from one sender to the next: a buffer that was full and is empty
 abbrev pub leaves : Framer → Framer → List ℕ
-leaves s t = byte_if (s.shared.full && not t.shared.full) s.shared.buffer
+leaves s t = byte_if (full s.shared && not (full t.shared)) (waiting_byte s.shared)
 
 -- the bytes loaded: those that leave the buffer at a tick, in their order
 abbrev pub loads : Bool → Framer → Framer → List ℕ
@@ -45,7 +46,7 @@ flag_over (Check n v) = false
 flag_over (Abort n) = false
 
 abbrev pub idles : Framer → Bool
-idles s = not s.shared.latch && (not s.shared.full && flag_over s.unit)
+idles s = not s.shared.latch && (not (full s.shared) && flag_over s.unit)
 
 -- one more, if so
 abbrev pub on_more : Bool → ℕ → ℕ

@@ -1,18 +1,23 @@
 -- 01, Interrupts: "Priority: A receive, transmit, external, then B." Refusal 4 in the paper's own
--- words: which source stands at a place of that order, and what it is for a pending source to lie
--- above all those in service. Assumes nothing.
-use Rattle.std.specs.Prelude.{◌≡◌, Bool, true, false, ℕ, ◌<◌, eqb, if◌then◌else◌}
+-- words: which sources are there, and what it is for a pending source to lie above all those in
+-- service. Assumes nothing.
+use Rattle.std.specs.Prelude.{◌≡◌, Bool, true, ◌<◌}
+use Rattle.interrupts.specs.declared.Source.{Source}
+use Rattle.interrupts.specs.declared.Source.TheVariants.{AReceive, ATransmit, AExternal}
+use Rattle.interrupts.specs.declared.Source.TheVariants.{BReceive, BTransmit, BExternal}
 use Rattle.interrupts.specs.declared.Six.{Six}
+use Rattle.interrupts.specs.Interrupts.{place}
 
-abbrev pub source_at : Six → ℕ → Bool
-source_at s k =
-    if eqb k 0 then s.a.receive else (if eqb k 1 then s.a.transmit
-    else (if eqb k 2 then s.a.external else (if eqb k 3 then s.b.receive
-    else (if eqb k 4 then s.b.transmit else (if eqb k 5 then s.b.external
-    else false)))))
+abbrev pub source_at : Six → Source → Bool
+source_at s AReceive = s.a.receive
+source_at s ATransmit = s.a.transmit
+source_at s AExternal = s.a.external
+source_at s BReceive = s.b.receive
+source_at s BTransmit = s.b.transmit
+source_at s BExternal = s.b.external
 
 -- a "pending source above all those in service"
 pub record SourceAbove (pending service : Six) : Type 0 where
-  pub place : ℕ
-  pub waits : source_at pending place ≡ true
-  pub above : (k : ℕ) → source_at service k ≡ true → place < k
+  pub source : Source
+  pub waits : source_at pending source ≡ true
+  pub above : (k : Source) → source_at service k ≡ true → place source < place k

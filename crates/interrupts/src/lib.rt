@@ -3,13 +3,18 @@
 #![tactic(auto)]
 
 ghost use Rattle.std.specs.Prelude.{◌≡◌};
-ghost use Rattle.interrupts.specs.Interrupts.{no_sources, with_source, no_six, highest, any_of, with_level, may_take, acknowledged, ended};
+ghost use Rattle.interrupts.specs.Interrupts.{no_sources, no_six, highest, any_of, with_source, may_take, acknowledged, ended};
 
-// The level of a source: 0 is A's receive, 5 B's external. Below these: none.
-const NO_LEVEL: u8 = 6;
-
-// The level of B's receive.
-const FIRST_OF_B: u8 = 3;
+// A source of the two channels, in the order of their priority: what stands before another lies above it.
+#[derive(Clone, Copy, PartialEq, Eq, PartialOrd, Ord)]
+pub enum Source {
+    AReceive,
+    ATransmit,
+    AExternal,
+    BReceive,
+    BTransmit,
+    BExternal,
+}
 
 // A channel's three interrupt sources, highest first.
 #[derive(Clone, Copy)]
@@ -37,24 +42,6 @@ impl Sources {
             external: false,
         }
     }
-
-    // One of the three, 0 to 2, put on or off.
-    fn with_source(mut self, k: u8, t: bool) -> Sources
-        ensures { result ≡ with_source self k t }
-    {
-        match k {
-            0 => {
-                self.receive = t;
-            }
-            1 => {
-                self.transmit = t;
-            }
-            _ => {
-                self.external = t;
-            }
-        }
-        self
-    }
 }
 
 impl Six {
@@ -66,76 +53,82 @@ impl Six {
         Six { a: n, b: n }
     }
 
-    // The level of the highest of these sources.
-    pub fn highest(self) -> u8
+    // The highest of these sources, if there is one.
+    #[tactic(auto, unfolding(crate::specs::Interrupts::highest))]
+    pub fn highest(self) -> Option<Source>
         ensures { result ≡ highest self }
     {
         if self.a.receive {
-            return 0;
+            Some(Source::AReceive)
+        } else if self.a.transmit {
+            Some(Source::ATransmit)
+        } else if self.a.external {
+            Some(Source::AExternal)
+        } else if self.b.receive {
+            Some(Source::BReceive)
+        } else if self.b.transmit {
+            Some(Source::BTransmit)
+        } else if self.b.external {
+            Some(Source::BExternal)
+        } else {
+            None
         }
-        if self.a.transmit {
-            return 1;
-        }
-        if self.a.external {
-            return 2;
-        }
-        if self.b.receive {
-            return FIRST_OF_B;
-        }
-        if self.b.transmit {
-            return 4;
-        }
-        if self.b.external {
-            return 5;
-        }
-        NO_LEVEL
     }
 
     // There is a source among them.
+    #[tactic(auto, unfolding(crate::specs::Interrupts::any_of))]
     pub fn any(self) -> bool
         ensures { result ≡ any_of self }
     {
-        self.highest() < NO_LEVEL
+        self.highest().is_some()
     }
 
-    // The source of a level, put on or off.
-    fn with_level(mut self, level: u8, t: bool) -> Six
-        ensures { result ≡ with_level self level t }
+    // One of the six, put on or off.
+    #[tactic(auto, unfolding(crate::specs::Interrupts::with_source))]
+    fn with_source(mut self, source: Source, on: bool) -> Six
+        ensures { result ≡ with_source self source on }
     {
-        if level < FIRST_OF_B {
-            self.a = self.a.with_source(level, t);
-        } else {
-            self.b = self.b.with_source(level - FIRST_OF_B, t);
+        match source {
+            Source::AReceive => self.a.receive = on,
+            Source::ATransmit => self.a.transmit = on,
+            Source::AExternal => self.a.external = on,
+            Source::BReceive => self.b.receive = on,
+            Source::BTransmit => self.b.transmit = on,
+            Source::BExternal => self.b.external = on,
         }
         self
     }
 
     // Of these, in service: the highest ends.
+    #[tactic(auto, unfolding(crate::specs::Interrupts::ended))]
     pub fn reti(self) -> Six
         ensures { result ≡ ended self }
     {
-        let level = self.highest();
-        if level < NO_LEVEL {
-            return self.with_level(level, false);
+        match self.highest() {
+            Some(source) => self.with_source(source, false),
+            None => self,
         }
-        self
     }
 }
 
 // A pending source lies above all those in service.
+#[tactic(auto, unfolding(crate::specs::Interrupts::may_take))]
 pub fn may_take(pending: Six, service: Six) -> bool
     ensures { result ≡ may_take pending service }
 {
-    pending.highest() < service.highest()
+    match (pending.highest(), service.highest()) {
+        (Some(waiting), Some(served)) => waiting < served,
+        (waiting, _) => waiting.is_some(),
+    }
 }
 
 // Acknowledge: the sources in service after it.
+#[tactic(auto, unfolding(crate::specs::Interrupts::may_take, crate::specs::Interrupts::acknowledged))]
 pub fn acknowledge(pending: Six, service: Six) -> Six
     ensures { result ≡ acknowledged pending service }
 {
-    let level = pending.highest();
-    if level < service.highest() {
-        return service.with_level(level, true);
+    match pending.highest() {
+        Some(source) if may_take(pending, service) => service.with_source(source, true),
+        _ => service,
     }
-    service
 }

@@ -1,59 +1,27 @@
--- Loops that lay bytes and compare cells, a step at a time. Assumes nothing.
-use Prim.Native.Nat.{ℕ, zero, suc, ◌+◌, ◌-◌, ◌<◌, ◌≤◌}
-use mathlib.Core.Path.{◌≡◌, refl}
-use mathlib.Core.Bool.{true, false}
-use mathlib.Core.List.{List, [], ◌∷◌}
-use native.Mathlib.Omega.{arith}
-use native.Mathlib.Numerals.{add-one, sub-one}
-use mathlib.Core.Logic.{◌≢◌}
-use borrow.Author.Tests.{eq-eqb, ne_eqb}
-use lib.ListN.{length, get_or, drop, set}
-use lib.Seq.{sets, drop-cons}
-use Rattle.items.specs.Desk.{Desk, laid, laid_times}
-use Rattle.items.specs.Item.{three_at}
-use Rattle.items.specs.Cells.{cell_at, cells_from}
+-- A pattern copied into a part of cells is laid there, a time more is laid behind the others, and a part up to the end. Assumes nothing.
+use Rattle.std.proofs.Common.{◌≡◌, List, ℕ, ◌+◌, ◌-◌, ◌≤◌, min, length, take, drop, arith, le-ltb, append_assoc, add-one}
+use Rattle.std.proofs.lemmas.List.Edits.{sets-eq}
+use Rattle.std.proofs.lemmas.List.{drop_min, length-drop, length-take}
+use Rattle.std.proofs.Math.Seq.{take-length}
+use borrow.Rule.Slice.PartMut.{put_mid, Post-is}
+use Rattle.items.specs.Desk.{Desk, desk, laid, laid_times}
 
-pub put_step : (cells pattern : List ℕ) (at i : ℕ) → i < length pattern
-    → sets cells (at + i) (drop i pattern)
-    ≡ sets (set cells (at + i) (get_or pattern i 0)) (at + (i + 1)) (drop (i + 1) pattern)
-put_step cells pattern at i h =
-    let one : at + (i + 1) ≡ suc (at + i) = omega arith in
-    rw (drop-cons pattern i 0 h, one, add-one)
+pub copied_laid : (cells pattern : List ℕ) (end behind : ℕ) → behind ≡ end + length pattern → behind ≤ length cells
+    → put_mid end (behind - end) cells pattern ≡ (laid pattern (desk cells end)).cells
+copied_laid cells pattern end behind e h =
+    let room : end + length pattern ≤ length cells = omega arith in
+    let far : end ≤ behind = omega arith in
+    rw (le-ltb (length cells) (end + length pattern) room, sets-eq pattern cells end room, Post-is end behind cells far, e, append_assoc)
 
-pub put_none : (cells pattern : List ℕ) (at i : ℕ) → length pattern ≤ i
-    → sets cells at (drop i pattern) ≡ cells
-put_none cells [] at zero h = refl
-put_none cells [] at (suc i) h = refl
-put_none cells (x ∷ pattern) at zero h = absurd (omega arith)
-put_none cells (x ∷ pattern) at (suc i) h = put_none cells pattern at i (omega arith)
-
-pub times_step : (n : ℕ) (pattern : List ℕ) (d : Desk) → 0 < n
-    → laid_times n pattern d ≡ laid_times (n - 1) pattern (laid pattern d)
+pub times_more : (n : ℕ) (pattern : List ℕ) (d : Desk) → laid_times (n + 1) pattern d ≡ laid pattern (laid_times n pattern d)
 unfolding laid_times
-times_step zero pattern d h = absurd (omega arith)
-times_step (suc n) pattern d h = rw sub-one
+times_more n pattern d = rw add-one
 
-pub times_none : (n : ℕ) (pattern : List ℕ) (d : Desk) → n ≤ 0 → laid_times n pattern d ≡ d
-unfolding laid_times
-times_none zero pattern d h = refl
-times_none (suc n) pattern d h = absurd (omega arith)
+-- what is left from a place on, cut off at the end; and so many bytes behind its first
+pub left_from : (bytes : List ℕ) (at m : ℕ) → m ≡ min at (length bytes) → take (length bytes - m) (drop m bytes) ≡ drop at bytes
+left_from bytes at m e =
+    let all : length bytes - m ≡ length (drop at bytes) = omega (arith, length-drop at bytes) in
+    rw (all, e, drop_min at bytes) (take-length (drop at bytes))
 
-pub cells_right : (n : ℕ) (cells wanted : List ℕ) (i : ℕ) → 0 < n
-    → cell_at cells (three_at wanted i) ≡ three_at wanted (i + 3)
-    → cells_from n cells wanted i ≡ cells_from (n - 1) cells wanted (i + 6)
-unfolding cells_from
-cells_right zero cells wanted i h e = absurd (omega arith)
-cells_right (suc n) cells wanted i h e = rw (eq-eqb _ _ e, sub-one)
-
-pub cells_wrong : (n : ℕ) (cells wanted : List ℕ) (i : ℕ) → 0 < n
-    → cell_at cells (three_at wanted i) ≢ three_at wanted (i + 3)
-    → cells_from n cells wanted i ≡ false
-unfolding cells_from
-cells_wrong zero cells wanted i h e = absurd (omega arith)
-cells_wrong (suc n) cells wanted i h e = rw (ne_eqb _ _ e)
-
-pub cells_none : (n : ℕ) (cells wanted : List ℕ) (i : ℕ) → n ≤ 0
-    → cells_from n cells wanted i ≡ true
-unfolding cells_from
-cells_none zero cells wanted i h = refl
-cells_none (suc n) cells wanted i h = absurd (omega arith)
+pub length_behind : (n : ℕ) (left : List ℕ) → length (take (length left - n) (drop n left)) ≡ length left - n
+length_behind n left = omega (arith, length-take (length left - n) (drop n left), length-drop n left)

@@ -1,40 +1,9 @@
 -- An item of the known answers: eight bytes, and those that may stand behind it. Assumes nothing.
-use Rattle.std.specs.Prelude.{Bool, ◌&&◌, ◌||◌, List, ℕ, ◌+◌, ◌-◌, ◌*◌, min, eqb, ltb, leb, length, get_or, if◌then◌else◌}
+use Rattle.std.specs.Prelude.{Bool, ◌&&◌, ◌||◌, List, ℕ, ◌+◌, ◌-◌, ◌*◌, min, eqb, ltb, length, get_or, drop, if◌then◌else◌}
+use Rattle.items.specs.declared.Kind.{Kind}
+use Rattle.items.specs.declared.Kind.TheVariants.{Line, Stop}
 use Rattle.items.specs.declared.Item.{Item}
-
--- the kinds; below the first of them items are events by their codes
-abbrev pub register_kind : ℕ
-register_kind = 10
-
-abbrev pub name_kind : ℕ
-name_kind = 11
-
-abbrev pub given_kind : ℕ
-given_kind = 12
-
-abbrev pub wanted_kind : ℕ
-wanted_kind = 13
-
-abbrev pub list_kind : ℕ
-list_kind = 14
-
-abbrev pub shared_list_kind : ℕ
-shared_list_kind = 15
-
-abbrev pub pages_kind : ℕ
-pages_kind = 16
-
-abbrev pub zeros_kind : ℕ
-zeros_kind = 17
-
-abbrev pub line_kind : ℕ
-line_kind = 18
-
-abbrev pub scan_kind : ℕ
-scan_kind = 19
-
-abbrev pub stop_kind : ℕ
-stop_kind = 255
+use Rattle.items.specs.Kind.{kind_of, lies, bytes_behind}
 
 -- numbers of two bytes and of three
 abbrev pub two_bytes : ℕ → ℕ → ℕ
@@ -43,19 +12,8 @@ two_bytes high low = high * 256 + low
 abbrev pub three_bytes : ℕ → ℕ → ℕ → ℕ
 three_bytes high middle low = two_bytes high middle * 256 + low
 
--- the byte so far behind a place; 0 where there is none
-unfoldable pub byte_from : List ℕ → ℕ → ℕ → ℕ
-byte_from bytes at k = if ltb k (length bytes - at) then get_or bytes (at + k) 0 else 0
-
-unfoldable pub three_at : List ℕ → ℕ → ℕ
-three_at bytes at = three_bytes (byte_from bytes at 0) (byte_from bytes at 1) (byte_from bytes at 2)
-
--- x bytes stand behind a name, and behind bytes for a call
-unfoldable pub bytes_behind : ℕ → ℕ → ℕ
-bytes_behind kind x = if leb name_kind kind && leb kind wanted_kind then x else 0
-
 -- an item that says nothing
-abbrev pub empty_item : ℕ → Item
+abbrev pub empty_item : Kind → Item
 empty_item kind = record {
   kind = kind;
   x = 0;
@@ -70,31 +28,31 @@ empty_item kind = record {
 abbrev pub item_size : ℕ
 item_size = 8
 
--- the place behind an item's bytes, or the end of all where they are cut off
-unfoldable pub behind_item : ℕ → ℕ → ℕ → ℕ
-behind_item size start n = if ltb (size - start) n then size else start + n
-
-unfoldable pub item_at : List ℕ → ℕ → Item
-item_at bytes at =
-    if ltb (length bytes - at) item_size then empty_item stop_kind
+-- the item that bytes begin with, at a place; the last where they are fewer
+abbrev pub item_in : List ℕ → ℕ → Item
+item_in left at =
+    if ltb (length left) item_size then empty_item Stop
     else record {
-      kind = byte_from bytes at 0;
-      x = byte_from bytes at 1;
-      y = byte_from bytes at 2;
-      z = byte_from bytes at 3;
-      number = byte_from bytes at 4;
-      value = three_at bytes (at + 5);
+      kind = kind_of (get_or left 0 0);
+      x = get_or left 1 0;
+      y = get_or left 2 0;
+      z = get_or left 3 0;
+      number = get_or left 4 0;
+      value = three_bytes (get_or left 5 0) (get_or left 6 0) (get_or left 7 0);
       start = at + item_size;
       behind =
-          behind_item (length bytes) (at + item_size)
-          (bytes_behind (byte_from bytes at 0) (byte_from bytes at 1));
+          at + item_size
+          + min (bytes_behind (kind_of (get_or left 0 0)) (get_or left 1 0)) (length left - item_size);
     }
+
+unfoldable pub item_at : List ℕ → ℕ → Item
+item_at bytes at = item_in (drop at bytes) at
 
 -- what a call gave is what its item says; no value is asked for where it is this one
 abbrev pub any_value : ℕ
 any_value = 0xFFFFFF
 
-unfoldable pub says : Item → ℕ → ℕ → Bool
+abbrev pub says : Item → ℕ → ℕ → Bool
 says t number value =
     eqb number t.number && (eqb value t.value || eqb t.value any_value)
 
@@ -102,17 +60,18 @@ says t number value =
 abbrev pub greatest : ℕ
 greatest = 18446744073709551615
 
-unfoldable pub place_of : Item → ℕ
+abbrev pub place_of : Item → ℕ
 place_of t = if eqb t.z 255 then greatest else t.z
 
 -- the cells lent to a call, of those that there are: x and y say it for a line; x for a list's
 -- rows, and with 0 there are all
-unfoldable pub room_of : Item → ℕ → ℕ
-room_of t cells =
-    if eqb t.kind line_kind then min (two_bytes t.x t.y) cells
-    else (if eqb t.x 0 then cells else min t.x cells)
+abbrev pub room_for : Kind → Item → ℕ → ℕ
+room_for Line t cells = min (two_bytes t.x t.y) cells
+room_for _ t cells = if eqb t.x 0 then cells else min t.x cells
+
+abbrev pub room_of : Item → ℕ → ℕ
+room_of t cells = room_for t.kind t cells
 
 -- the bytes behind bytes for a call come so often as y and z say
-unfoldable pub times_of : Item → ℕ
-times_of t =
-    if leb given_kind t.kind && leb t.kind wanted_kind then two_bytes t.y t.z else 0
+abbrev pub times_of : Item → ℕ
+times_of t = if lies t.kind then two_bytes t.y t.z else 0

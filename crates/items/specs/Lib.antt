@@ -1,3 +1,4 @@
+pub mod Kind
 pub mod Item
 pub mod Desk
 pub mod Sheet

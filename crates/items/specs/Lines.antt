@@ -3,7 +3,8 @@ use Rattle.std.specs.Prelude.{Bool, List, [], ◌∷◌, ℕ, eqb, if◌then◌e
 use Rattle.text.specs.declared.Line.{Line}
 use Rattle.text.specs.Text.{newline, space, empty_line, with_all, numbered}
 use Rattle.items.specs.declared.Sheet.{Sheet}
-use Rattle.items.specs.Item.{name_kind}
+use Rattle.items.specs.declared.Kind.{Kind}
+use Rattle.items.specs.declared.Kind.TheVariants.{Name}
 use Rattle.items.specs.Desk.{Desk, desk, part_of, laid}
 
 -- the words, in ASCII
@@ -35,21 +36,22 @@ abbrev pub verdict : Bool → List ℕ
 verdict right = if right then ok_word else bad_word
 
 -- where a case ends, its verdict and its name, each where there is room for it
-unfoldable pub told : Sheet → List ℕ → List ℕ → Desk
-told s bytes out =
-    if eqb s.item.kind name_kind
-    then laid (part_of bytes s.item.start s.item.behind)
-    (laid (verdict s.right) (desk out s.told))
-    else desk out s.told
+abbrev pub told_for : Kind → Sheet → List ℕ → Desk → Desk
+told_for Name s bytes out =
+    laid (part_of bytes s.item.start s.item.behind) (laid (verdict s.right) out)
+told_for _ s bytes out = out
+
+abbrev pub told : Sheet → List ℕ → List ℕ → Desk
+told s bytes out = told_for s.item.kind s bytes (desk out s.told)
 
 -- how many cases were right, of how many; none is bad
-unfoldable pub last_line : Sheet → Line
+abbrev pub last_line : Sheet → Line
 last_line s =
     if eqb s.cases 0 then with_all empty_line none_words
     else with_all (numbered (with_all (numbered empty_line s.good space) of_word) s.cases space)
     right_word
 
 -- that line, behind all others
-unfoldable pub ended : Sheet → List ℕ → Desk
+abbrev pub ended : Sheet → List ℕ → Desk
 ended s out =
     laid (part_of (last_line s).text 0 (last_line s).size) (desk out s.told)

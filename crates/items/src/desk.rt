@@ -2,25 +2,19 @@
 ghost use Rattle.std.specs.Prelude.{◌≡◌};
 ghost use Rattle.items.specs.Desk.{part_of, all_read, desk, laid, laid_times};
 
-use crate::{left_from, lesser};
-
 // A part of bytes, from a place to a place, as far as there are bytes.
 pub fn part(bytes: &[u8], from: usize, to: usize) -> &[u8]
     ensures { result.now ≡ part_of bytes.now from to }
 {
-    let e = lesser(to, bytes.len());
-    let a = lesser(from, e);
-    &bytes[a..e]
+    let end = to.min(bytes.len());
+    &bytes[from.min(end)..end]
 }
 
 // The bytes that were read, so many; none where there may have been more.
 pub fn all_read(bytes: &[u8], n: usize) -> &[u8]
     ensures { result.now ≡ all_read bytes.now n }
 {
-    if n < bytes.len() {
-        return part(bytes, 0, n);
-    }
-    part(bytes, 0, 0)
+    if n < bytes.len() { &bytes[..n] } else { &[] }
 }
 
 // A pattern, where there is room for it. Gives the place behind.
@@ -28,15 +22,12 @@ pub(crate) fn lay(cells: &mut [u8], end: usize, pattern: &[u8]) -> usize
     ensures value { result ≡ (laid pattern.now (desk cells.old end)).end }
     ensures cells_after { cells.new ≡ (laid pattern.now (desk cells.old end)).cells }
 {
-    if left_from(cells.len(), end) < pattern.len() {
+    let behind = end.saturating_add(pattern.len());
+    if cells.len() < behind {
         return end;
     }
-    let mut i = 0;
-    while i < pattern.len() {
-        cells[end + i] = pattern[i];
-        i = i + 1;
-    }
-    end + pattern.len()
+    cells[end..behind].copy_from_slice(pattern);
+    behind
 }
 
 // So many times, one behind the other.
@@ -45,10 +36,8 @@ pub(crate) fn lay_times(cells: &mut [u8], end: usize, pattern: &[u8], times: usi
     ensures cells_after { cells.new ≡ (laid_times times pattern.now (desk cells.old end)).cells }
 {
     let mut at = end;
-    let mut left = times;
-    while 0 < left {
+    for _ in 0..times {
         at = lay(cells, at, pattern);
-        left = left - 1;
     }
     at
 }

@@ -7,9 +7,10 @@ mod cells;
 mod desk;
 mod lines;
 
-ghost use Rattle.std.specs.Prelude.{◌≡◌, ◌-◌, ◌≤◌, ◌<◌, min};
-ghost use Rattle.items.specs.Item.{two_bytes, byte_from, three_at, bytes_behind, empty_item};
-ghost use Rattle.items.specs.Item.{behind_item, item_at, says, place_of, room_of, times_of};
+ghost use Rattle.std.specs.Prelude.{◌≡◌, ◌≤◌, ◌<◌};
+ghost use Rattle.items.specs.Kind.{kind_of, lies, bytes_behind};
+ghost use Rattle.items.specs.Item.{two_bytes, three_bytes, empty_item, item_at};
+ghost use Rattle.items.specs.Item.{says, place_of, room_of, times_of};
 ghost use Rattle.items.specs.Sheet.{start_sheet, counted, right_by, closed, judged, answered};
 ghost use Rattle.items.specs.Sheet.{with_item, dealt_desk, dealt_sheet};
 ghost use Rattle.items.specs.Lines.{told};
@@ -20,11 +21,78 @@ pub use crate::desk::{all_read, part};
 pub use crate::lines::ended;
 use crate::lines::tell;
 
+// An item's kind, each with its byte.
+#[derive(Clone, Copy, PartialEq, Eq)]
+pub enum Kind {
+    // 0 to 9: an event, by its code
+    Event(u8),
+    // 10
+    Register,
+    // 11: the case ends here: its name
+    Name,
+    // 12: bytes for the next call
+    Given,
+    // 13: bytes that it must leave
+    Wanted,
+    // 14 to 19: the other calls
+    NoteList,
+    SharedList,
+    Pages,
+    Zeros,
+    Line,
+    Scan,
+    // 255: there is no more
+    Stop,
+    // any other: a call that nothing makes, so never right
+    Unknown,
+}
+
+impl From<u8> for Kind {
+    ghost from_gives = { λ v r. r ≡ kind_of v };
+
+    fn from(v: u8) -> Kind {
+        match v {
+            0..=9 => Kind::Event(v),
+            10 => Kind::Register,
+            11 => Kind::Name,
+            12 => Kind::Given,
+            13 => Kind::Wanted,
+            14 => Kind::NoteList,
+            15 => Kind::SharedList,
+            16 => Kind::Pages,
+            17 => Kind::Zeros,
+            18 => Kind::Line,
+            19 => Kind::Scan,
+            255 => Kind::Stop,
+            _ => Kind::Unknown,
+        }
+    }
+}
+
+impl Kind {
+    // Bytes for a call, or bytes that it must leave.
+    fn lies(self) -> bool
+        ensures { result ≡ lies self }
+    {
+        matches!(self, Kind::Given | Kind::Wanted)
+    }
+
+    // How many bytes stand behind an item of this kind.
+    fn bytes_behind(self, x: u8) -> usize
+        ensures { result ≡ bytes_behind self x }
+    {
+        match self {
+            Kind::Name | Kind::Given | Kind::Wanted => usize::from(x),
+            _ => 0,
+        }
+    }
+}
+
 // An item of eight bytes: its kind, three arguments, and what it must give, a refusal's number and a value of three bytes. Bytes may stand behind
 // it, from a place to a place, which is the next item's.
 #[derive(Clone, Copy)]
 pub struct Item {
-    pub kind: u8,
+    pub kind: Kind,
     pub x: u8,
     pub y: u8,
     pub z: u8,
@@ -34,103 +102,32 @@ pub struct Item {
     pub behind: usize,
 }
 
-// The kinds of items. Below the first of these they are events by their codes.
-pub const REGISTER: u8 = 10;
-
-// The case ends here: its name.
-pub const NAME: u8 = 11;
-
-// Bytes for the next call, and bytes that it must leave.
-pub const GIVEN: u8 = 12;
-
-pub const WANTED: u8 = 13;
-
-// The other calls.
-pub const LIST: u8 = 14;
-
-pub const SHARED_LIST: u8 = 15;
-
-pub const PAGES: u8 = 16;
-
-pub const ZEROS: u8 = 17;
-
-pub const LINE: u8 = 18;
-
-pub const SCAN: u8 = 19;
-
-// There is no more.
-pub const STOP: u8 = 255;
-
 // The bytes of an item.
 const ITEM: usize = 8;
 
 // No value is asked for.
 const ANY: usize = 0xFFFFFF;
 
-// The greatest place there is, and the byte that names it.
-const GREATEST: usize = 18446744073709551615;
-
+// The byte that names the greatest place there is.
 const GREATEST_PLACE: u8 = 255;
-
-fn wide(x: u8) -> usize
-    ensures value { result ≡ x }
-    ensures upper_bound { result < 256 }
-{
-    x as usize
-}
 
 // A number of two bytes.
 pub fn two_bytes(high: u8, low: u8) -> usize
     ensures value { result ≡ two_bytes high low }
     ensures upper_bound { result < 65536 }
 {
-    wide(high) * 256 + wide(low)
+    usize::from(high) * 256 + usize::from(low)
 }
 
-// What is left of so many bytes from a place on.
-fn left_from(len: usize, at: usize) -> usize
-    ensures { result ≡ len - at }
+// A number of three.
+fn three_bytes(high: u8, middle: u8, low: u8) -> usize
+    ensures { result ≡ three_bytes high middle low }
 {
-    if len < at { 0 } else { len - at }
-}
-
-// The byte so far behind a place; 0 where there is none.
-fn byte_from(bytes: &[u8], at: usize, k: usize) -> u8
-    ensures { result ≡ byte_from bytes.now at k }
-{
-    if k < left_from(bytes.len(), at) {
-        return bytes[at + k];
-    }
-    0
-}
-
-// The number of three bytes at a place.
-fn three_at(bytes: &[u8], at: usize) -> usize
-    ensures { result ≡ three_at bytes.now at }
-{
-    two_bytes(byte_from(bytes, at, 0), byte_from(bytes, at, 1)) * 256
-        + wide(byte_from(bytes, at, 2))
-}
-
-fn lesser(a: usize, b: usize) -> usize
-    ensures value { result ≡ min a b }
-    ensures upper_bound { result ≤ b }
-{
-    if a < b { a } else { b }
-}
-
-// How many bytes stand behind an item of this kind.
-fn bytes_behind(kind: u8, x: u8) -> usize
-    ensures { result ≡ bytes_behind kind x }
-{
-    if (NAME <= kind) & (kind <= WANTED) {
-        return wide(x);
-    }
-    0
+    two_bytes(high, middle) * 256 + usize::from(low)
 }
 
 impl Item {
-    fn empty(kind: u8) -> Item
+    fn empty(kind: Kind) -> Item
         ensures { result ≡ empty_item kind }
     {
         Item {
@@ -157,9 +154,10 @@ impl Item {
         ensures { result ≡ place_of self }
     {
         if self.z == GREATEST_PLACE {
-            return GREATEST;
+            usize::MAX
+        } else {
+            usize::from(self.z)
         }
-        wide(self.z)
     }
 
     // How many cells are lent to its call, of those that there are.
@@ -167,54 +165,44 @@ impl Item {
         ensures value { result ≡ room_of self cells }
         ensures upper_bound { result ≤ cells }
     {
-        if self.kind == LINE {
-            return lesser(two_bytes(self.x, self.y), cells);
+        match self.kind {
+            Kind::Line => two_bytes(self.x, self.y).min(cells),
+            _ if self.x == 0 => cells,
+            _ => usize::from(self.x).min(cells),
         }
-        if self.x == 0 {
-            return cells;
-        }
-        lesser(wide(self.x), cells)
     }
 
     // How often the bytes behind it come.
     fn times(self) -> usize
         ensures { result ≡ times_of self }
     {
-        if (GIVEN <= self.kind) & (self.kind <= WANTED) {
-            return two_bytes(self.y, self.z);
+        if self.kind.lies() {
+            two_bytes(self.y, self.z)
+        } else {
+            0
         }
-        0
     }
-}
-
-// The place behind an item and its bytes, or the end of all where they are cut off.
-fn behind(len: usize, start: usize, n: usize) -> usize
-    ensures { result ≡ behind_item len start n }
-{
-    if left_from(len, start) < n {
-        return len;
-    }
-    start + n
 }
 
 // The item at a place; the last where none stands.
 fn item_at(bytes: &[u8], at: usize) -> Item
     ensures { result ≡ item_at bytes.now at }
 {
-    if left_from(bytes.len(), at) < ITEM {
-        return Item::empty(STOP);
-    }
-    let kind = byte_from(bytes, at, 0);
-    let x = byte_from(bytes, at, 1);
+    let left = &bytes[at.min(bytes.len())..];
+    let [kind, x, y, z, number, high, middle, low, rest @ ..] = left else {
+        return Item::empty(Kind::Stop);
+    };
+    let kind = Kind::from(*kind);
+    let start = at + ITEM;
     Item {
         kind,
-        x,
-        y: byte_from(bytes, at, 2),
-        z: byte_from(bytes, at, 3),
-        number: byte_from(bytes, at, 4),
-        value: three_at(bytes, at + 5),
-        start: at + ITEM,
-        behind: behind(bytes.len(), at + ITEM, bytes_behind(kind, x)),
+        x: *x,
+        y: *y,
+        z: *z,
+        number: *number,
+        value: three_bytes(*high, *middle, *low),
+        start,
+        behind: start + kind.bytes_behind(*x).min(rest.len()),
     }
 }
 
@@ -235,23 +223,17 @@ pub struct Sheet {
 fn counted(n: usize, right: bool) -> usize
     ensures { result ≡ counted n right }
 {
-    if 99999 <= n {
-        return n;
-    }
-    if right {
-        return n + 1;
-    }
-    n
+    if right & (n < 99999) { n + 1 } else { n }
 }
 
 // The call of an item gave what it must: the chip's answer, or a 1 where the call was judged already.
 fn right_by(t: Item, number: u8, value: u8) -> bool
     ensures { result ≡ right_by t number value }
 {
-    if t.kind <= REGISTER {
-        return t.is(number, wide(value));
+    match t.kind {
+        Kind::Event(_) | Kind::Register => t.is(number, usize::from(value)),
+        _ => value == 1,
     }
-    value == 1
 }
 
 impl Sheet {
@@ -260,7 +242,7 @@ impl Sheet {
         ensures { result ≡ start_sheet }
     {
         Sheet {
-            item: Item::empty(GIVEN),
+            item: Item::empty(Kind::Given),
             given: 0,
             wanted: 0,
             right: true,
@@ -274,53 +256,55 @@ impl Sheet {
     fn closed(self, told: usize) -> Sheet
         ensures { result ≡ closed self told }
     {
-        let mut s = self;
-        s.given = 0;
-        s.wanted = 0;
-        s.right = true;
-        s.cases = counted(self.cases, true);
-        s.good = counted(self.good, self.right);
-        s.told = told;
-        s
+        Sheet {
+            given: 0,
+            wanted: 0,
+            right: true,
+            cases: counted(self.cases, true),
+            good: counted(self.good, self.right),
+            told,
+            ..self
+        }
     }
 
     // A call is judged, and has used its bytes up.
     fn judged(self, right: bool) -> Sheet
         ensures { result ≡ judged self right }
     {
-        let mut s = self;
-        s.given = 0;
-        s.wanted = 0;
-        s.right = self.right & right;
-        s
+        Sheet {
+            given: 0,
+            wanted: 0,
+            right: self.right & right,
+            ..self
+        }
     }
 
     // The item has been played; bytes for a call wait for it.
     fn answered(self, number: u8, value: u8, told: usize) -> Sheet
         ensures { result ≡ answered self number value told }
     {
-        let kind = self.item.kind;
-        if (GIVEN <= kind) & (kind <= WANTED) {
-            return self;
+        match self.item.kind {
+            Kind::Given | Kind::Wanted => self,
+            Kind::Name => self.closed(told),
+            _ => self.judged(right_by(self.item, number, value)),
         }
-        if kind == NAME {
-            return self.closed(told);
-        }
-        self.judged(right_by(self.item, number, value))
     }
 
     // The next item, its bytes laid on the desk up to here.
     fn with_item(self, t: Item, end: usize) -> Sheet
         ensures { result ≡ with_item self t end }
     {
-        let mut s = self;
-        s.item = t;
-        s.wanted = end;
-        if t.kind == GIVEN {
-            s.given = end;
-            return s;
+        let given = if t.kind == Kind::Given {
+            end
+        } else {
+            self.given
+        };
+        Sheet {
+            item: t,
+            given,
+            wanted: end,
+            ..self
         }
-        s
     }
 }
 

@@ -1,33 +1,22 @@
 // What a run of known answers tells: a line for each case, and how many were right. Assumes nothing.
 ghost use Rattle.std.specs.Prelude.{◌≡◌};
-ghost use Rattle.items.specs.Desk.{desk, laid};
-ghost use Rattle.items.specs.Lines.{verdict, told, last_line, ended};
+ghost use Rattle.items.specs.Lines.{told, last_line, ended};
 
 use crate::desk::{lay, part};
-use crate::{NAME, Sheet};
+use crate::{Kind, Sheet};
 use text::Line;
 
-// Whether a case was right.
-fn lay_verdict(out: &mut [u8], end: usize, right: bool) -> usize
-    ensures value { result ≡ (laid (verdict right) (desk out.old end)).end }
-    ensures out_after { out.new ≡ (laid (verdict right) (desk out.old end)).cells }
-{
-    if right {
-        return lay(out, end, b"ok  ");
-    }
-    lay(out, end, b"BAD ")
-}
-
-// At the end of a case its line, which its name ends.
+// At the end of a case its line: whether it was right, and its name.
 pub(crate) fn tell(s: Sheet, bytes: &[u8], out: &mut [u8]) -> usize
     ensures value { result ≡ (told s bytes.now out.old).end }
     ensures out_after { out.new ≡ (told s bytes.now out.old).cells }
 {
-    if s.item.kind == NAME {
-        let end = lay_verdict(out, s.told, s.right);
-        return lay(out, end, part(bytes, s.item.start, s.item.behind));
+    if s.item.kind != Kind::Name {
+        return s.told;
     }
-    s.told
+    let verdict: &[u8] = if s.right { b"ok  " } else { b"BAD " };
+    let end = lay(out, s.told, verdict);
+    lay(out, end, part(bytes, s.item.start, s.item.behind))
 }
 
 // How many cases were right, of how many; none is bad.

@@ -44,19 +44,15 @@ impl CheckRule {
 }
 
 // The register after a text, over the polynomial p.
+#[tactic(auto, using(crate::specs::Laws::Rule::text_over))]
 pub fn check_text(p: u16, r: u16, text: &[u8]) -> u16
     ensures { result ≡ check_over p r (text_bits 8 text.now) }
 {
-    let mut x = r;
-    let mut i = 0;
-    while i < text.len() {
-        x = check_byte(p, x, text[i]);
-        i = i + 1;
-    }
-    x
+    text.iter().fold(r, |x, v| check_byte(p, x, *v))
 }
 
 // The check of a text, worked out whole.
+#[tactic(auto, unfolding(crate::specs::Rule::check_by))]
 pub fn check_of(rule: CheckRule, text: &[u8]) -> u16
     ensures { result ≡ check_by rule text.now }
 {
@@ -64,6 +60,7 @@ pub fn check_of(rule: CheckRule, text: &[u8]) -> u16
 }
 
 // The check of two texts put together, from the check of each; the second has k bytes.
+#[tactic(auto, unfolding(crate::specs::Join::joined_by))]
 pub fn joined(rule: CheckRule, heading: u16, body: u16, k: usize) -> u16
     ensures value { result ≡ joined_by rule heading body k }
     ensures joins { Joins rule heading body k result }

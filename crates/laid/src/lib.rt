@@ -5,21 +5,16 @@ ghost use Rattle.std.specs.Prelude.{◌≡◌};
 ghost use Rattle.laid.specs.Laid.{end_stamped, frame_stamped};
 
 use pen::put_flag;
+use stamp::Tables;
 use tabled::put_content;
 
 // The frame, flags included; gives the place of the flag that closes it.
-pub fn lay_frame(
-    out: &mut [u8],
-    note: &[u8],
-    checks: &[u16; 256],
-    stamps: &[u16; 1280],
-    fours: &[u32; 16],
-) -> usize
-    ensures value { result ≡ end_stamped checks.now stamps.now fours.now out.old note.now }
-    ensures out_after { out.new ≡ frame_stamped checks.now stamps.now fours.now out.old note.now }
+pub fn lay_frame(out: &mut [u8], note: &[u8], tables: &Tables) -> usize
+    ensures value { result ≡ end_stamped tables.now.checks tables.now.stamps tables.now.fours out.old note.now }
+    ensures out_after { out.new ≡ frame_stamped tables.now.checks tables.now.stamps tables.now.fours out.old note.now }
 {
     put_flag(out, 0);
-    let end = put_content(out, note, checks, stamps, fours);
+    let end = put_content(out, note, tables);
     put_flag(out, end);
     end
 }

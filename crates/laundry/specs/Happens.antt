@@ -4,6 +4,7 @@
 pub use Rattle.std.specs.Prelude.{not, ◌&&◌, ◌-◌, ◌/◌, eqb, if◌then◌else◌}
 pub use Rattle.line.specs.Bits.{odd}
 pub use Rattle.line.specs.Check.{complement}
+pub use Rattle.shared.specs.Shared.{full}
 pub use Rattle.settings.specs.Settings.{store6, store7}
 use Rattle.chip.specs.Event.{step}
 use Rattle.tales.specs.Tale.{Happens}

@@ -18,30 +18,20 @@ struct Text {
     m: u16,
 }
 
-// A text's bytes one after another. Place and run are two numbers here, and a byte is put down in
-// one place alone, so that the loop holds all it needs in registers.
+// A text's bytes one after another.
 fn put_text(out: &mut [u8], p: Pen, text: &[u8]) -> Text
     ensures pen_value { result.pen ≡ (bytes_put (sheet out.old p) text.now).pen }
     ensures m_value { result.m ≡ mirrored_over ones text.now }
     ensures out_after { out.new
         ≡ (bytes_put (sheet out.old p) text.now).buffer }
 {
-    let mut at = p.at;
-    let mut run = p.run;
+    let mut pen = p;
     let mut m = ONES;
-    let mut i = 0;
-    while i < text.len() {
-        let v = text[i];
-        let q = put_byte(out, Pen { at, run }, v);
-        at = q.at;
-        run = q.run;
-        m = mirrored_byte(m, v);
-        i = i + 1;
+    for v in text {
+        pen = put_byte(out, pen, *v);
+        m = mirrored_byte(m, *v);
     }
-    Text {
-        pen: Pen { at, run },
-        m,
-    }
+    Text { pen, m }
 }
 
 // Behind the opening flag the note's bytes, then their check: complemented, x^15 first, which is

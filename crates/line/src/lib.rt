@@ -1,10 +1,10 @@
 // What a line is made of: the check register, zero insertion, and which notes have a frame. Assumes nothing.
 #![tactic(auto)]
 
-ghost use Rattle.std.specs.Prelude.{◌≡◌, ◌*◌};
-ghost use Rattle.line.specs.Bits.{low_bits, one_if};
+ghost use Rattle.std.specs.Prelude.{◌≡◌};
+ghost use Rattle.line.specs.Bits.{low_bits};
 ghost use Rattle.line.specs.Check.{check_step, check_over};
-ghost use Rattle.line.specs.Insertion.{counted, seen};
+ghost use Rattle.line.specs.Insertion.{counted};
 ghost use Rattle.line.specs.Line.{note_fits};
 
 // x^16+x^12+x^5+1, the polynomial of SDLC.
@@ -14,20 +14,17 @@ pub const ONES: u16 = 0xFFFF;
 // The longest note that a frame carries.
 pub const LONGEST_NOTE: usize = 2048;
 
-// A bit at the place of x^15.
-fn at_the_top(b: bool) -> u16
-    ensures { result ≡ one_if b * 32768 }
-{
-    if b { 32768 } else { 0 }
-}
-
-// The register after one bit, over the polynomial p. The bit enters at x^15.
+// The register after one bit, over the polynomial p: it moves up, and takes p where what goes out of x^15 differs from the bit.
+#[tactic(auto, unfolding(crate::specs::Check::check_step))]
 pub fn check_step(p: u16, r: u16, b: bool) -> u16
     ensures { result ≡ check_step p r b }
 {
-    let x = r ^ at_the_top(b);
-    let s = x % 32768 * 2;
-    if x / 32768 % 2 == 1 { s ^ p } else { s }
+    let moved = r % 32768 * 2;
+    if (r / 32768 % 2 == 1) != b {
+        moved ^ p
+    } else {
+        moved
+    }
 }
 
 // The register after the eight bits of a byte, low bit first.
@@ -36,11 +33,9 @@ pub fn check_byte(p: u16, r: u16, v: u8) -> u16
 {
     let mut x = r;
     let mut rest = v;
-    let mut left: u8 = 8;
-    while 0 < left {
+    for _ in 0..8u8 {
         x = check_step(p, x, rest % 2 == 1);
-        rest = rest / 2;
-        left = left - 1;
+        rest /= 2;
     }
     x
 }
@@ -52,24 +47,17 @@ pub struct Insertion {
     pub owed: bool,
 }
 
-// The ones in a row with this bit.
-fn ones_with(run: u8, b: bool) -> u16
-    ensures { result ≡ seen run b }
-{
-    if b { run as u16 + 1 } else { 0 }
-}
-
 impl Insertion {
     // A bit of content counted: after five ones in a row a 0 is owed, and the run starts again.
     pub fn counted(run: u8, b: bool) -> Insertion
         ensures { result ≡ counted run b }
     {
-        let ones = ones_with(run, b);
+        let ones = if b { run.saturating_add(1) } else { 0 };
         if 5 <= ones {
             return Insertion { run: 0, owed: true };
         }
         Insertion {
-            run: ones as u8,
+            run: ones,
             owed: false,
         }
     }
@@ -79,5 +67,5 @@ impl Insertion {
 pub fn note_fits(n: usize) -> bool
     ensures { result ≡ note_fits n }
 {
-    (n != 0) & (n <= LONGEST_NOTE)
+    0 < n && n <= LONGEST_NOTE
 }

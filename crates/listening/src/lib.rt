@@ -3,9 +3,8 @@
 
 mod within;
 
-ghost use Rattle.std.specs.Prelude.{◌≡◌, ◌≤◌};
-ghost use Rattle.line.specs.Bits.{one_if};
-ghost use Rattle.sdlc.specs.Hearing.{ones_counted, shift_in, wrong, listener, unheard, dropping, with_ones, accept, push, closing, one, zero_bit, hear_sdlc};
+ghost use Rattle.std.specs.Prelude.{◌≡◌};
+ghost use Rattle.sdlc.specs.Hearing.{ones_counted, shift_in, wrong, listener, unheard, dropping, with_ones, unmarked, accept, push, closing, one, zero_bit, hear_sdlc};
 
 pub use crate::within::{hear_within, hears_within};
 use entry::Entry;
@@ -31,13 +30,6 @@ const ABORT: u8 = 7;
 // The address that every station takes for its own.
 const EVERYONE: u8 = 0xFF;
 
-fn bit(b: bool) -> u8
-    ensures value { result ≡ one_if b }
-    ensures upper_bound { result ≤ 1 }
-{
-    if b { 1 } else { 0 }
-}
-
 // Ones in a row; more than an abort's are counted as its seven.
 fn ones_counted(ones: u8) -> u8
     ensures { result ≡ ones_counted ones }
@@ -49,14 +41,14 @@ fn ones_counted(ones: u8) -> u8
 fn shift_in(b: bool, part: u8) -> u8
     ensures { result ≡ shift_in b part }
 {
-    if b { part / 2 + 128 } else { part / 2 }
+    part / 2 + u8::from(b) * 128
 }
 
 // The first byte v of a frame (none is held) is neither the address nor everyone's.
-fn wrong(g: Addressing, held: bool, v: u8) -> bool
+fn wrong(g: Addressing, held: Option<u8>, v: u8) -> bool
     ensures { result ≡ wrong g held v }
 {
-    g.search & (!held & ((v != g.address) & (v != EVERYONE)))
+    g.search & (held.is_none() & ((v != g.address) & (v != EVERYONE)))
 }
 
 // A tick that hands nothing over.
@@ -65,22 +57,23 @@ fn unheard(listener: Listener) -> Listened
 {
     Listened {
         listener,
-        some: false,
-        entry: Entry::none(),
+        entry: None,
     }
 }
 
-// The character held ends the frame.
-fn closing(c: Chars, check: u16) -> Entry
+// The character held, if one is, without a mark.
+fn unmarked(held: Option<u8>) -> Option<Entry>
+    ensures { result ≡ unmarked held }
+{
+    held.map(|v| Entry::received(v, false, false, false, false))
+}
+
+// It ends the frame: with the end mark, and with a bad check or not.
+fn closing(c: Chars, check: u16) -> Option<Entry>
     ensures { result ≡ closing c check }
 {
-    Entry::received(
-        c.held,
-        false,
-        false,
-        true,
-        !((c.count == 0) & (check == REMAINDER)),
-    )
+    let bad = !((c.count == 0) & (check == REMAINDER));
+    c.held.map(|v| Entry::received(v, false, false, true, bad))
 }
 
 // Between two flags, with these ones in a row, this delay and these characters; check and D7.
@@ -112,6 +105,7 @@ fn dropping(ones: u8, check: u16, broken: bool) -> Listener
 }
 
 // A bit b leaves the delay behind characters c; with its eighth a character is held, and the one held before is queued.
+#[tactic(auto, unfolding(sdlc::specs::Hearing::accept))]
 fn accept(g: Addressing, c: Chars, k: u16, ones: u8, broken: bool, delay: u8, b: bool) -> Listened
     ensures { result ≡ accept g c k ones broken delay b }
 {
@@ -121,33 +115,31 @@ fn accept(g: Addressing, c: Chars, k: u16, ones: u8, broken: bool, delay: u8, b:
         let chars = Chars {
             count: c.count + 1,
             part,
-            have: c.have,
-            held: c.held,
+            ..c
         };
         return unheard(listener(ones, delay, chars, check, broken));
     }
-    if wrong(g, c.have, part) {
+    if wrong(g, c.held, part) {
         return unheard(dropping(ones, check, broken));
     }
     let chars = Chars {
         count: 0,
         part: 0,
-        have: true,
-        held: part,
+        held: Some(part),
     };
     Listened {
         listener: listener(ones, delay, chars, check, broken),
-        some: c.have,
-        entry: Entry::received(c.held, false, false, false, false),
+        entry: unmarked(c.held),
     }
 }
 
 // A bit of content enters the delay; a full one gives its oldest.
+#[tactic(auto, unfolding(sdlc::specs::Hearing::push))]
 fn push(g: Addressing, s: Listener, ones: u8, broken: bool, b: bool) -> Listened
     ensures { result ≡ push g s ones broken b }
 {
     let d = s.content.delay;
-    let v = bit(b);
+    let v = u8::from(b);
     if d < FULL {
         return unheard(listener(ones, d * 2 + v, s.content.chars, s.check, broken));
     }
@@ -172,6 +164,7 @@ fn with_ones(mut s: Listener, ones: u8, broken: bool) -> Listener
 }
 
 // A 1 on the line.
+#[tactic(auto, unfolding(sdlc::specs::Hearing::one))]
 fn one(g: Addressing, s: Listener) -> Listened
     ensures { result ≡ one g s }
 {
@@ -189,6 +182,7 @@ fn one(g: Addressing, s: Listener) -> Listened
 }
 
 // A 0 on the line.
+#[tactic(auto, unfolding(sdlc::specs::Hearing::zero_bit))]
 fn zero_bit(g: Addressing, s: Listener) -> Listened
     ensures { result ≡ zero_bit g s }
 {
@@ -201,8 +195,11 @@ fn zero_bit(g: Addressing, s: Listener) -> Listened
                 check: ONES,
                 broken: false,
             },
-            some: !deaf & s.content.chars.have,
-            entry: closing(s.content.chars, s.check),
+            entry: if deaf {
+                None
+            } else {
+                closing(s.content.chars, s.check)
+            },
         };
     }
     if deaf {
@@ -215,11 +212,9 @@ fn zero_bit(g: Addressing, s: Listener) -> Listened
 }
 
 // One receive tick while on.
+#[tactic(auto, unfolding(sdlc::specs::Hearing::hear_sdlc))]
 pub fn hear(s: Listener, g: Addressing, bit: bool) -> Listened
     ensures { result ≡ hear_sdlc g s bit }
 {
-    if bit {
-        return one(g, s);
-    }
-    zero_bit(g, s)
+    if bit { one(g, s) } else { zero_bit(g, s) }
 }

@@ -3,7 +3,7 @@
 ghost use Rattle.std.specs.Prelude.{◌≡◌};
 ghost use Rattle.sdlc.specs.Within.{fewer_than, ones_after, count_after, hears_on, moved_on};
 
-use crate::{FLAG, FULL, INSERTED, LAST, bit, ones_counted, shift_in};
+use crate::{FLAG, FULL, INSERTED, LAST, ones_counted, shift_in};
 use line::{SDLC, check_step};
 use sdlc::{Chars, Content, Listener};
 
@@ -18,23 +18,18 @@ fn fewer_than(b: bool) -> u8
 fn ones_after(b: bool, ones: u8) -> u8
     ensures { result ≡ ones_after ones b }
 {
-    if b {
-        return ones_counted(ones);
-    }
-    0
+    if b { ones_counted(ones) } else { 0 }
 }
 
 // The bits of a character with one more.
 fn count_after(n: u8) -> u8
     ensures { result ≡ count_after n }
 {
-    if n < LAST {
-        return n + 1;
-    }
-    0
+    if n < LAST { n + 1 } else { 0 }
 }
 
 // This bit is such a one.
+#[tactic(auto, unfolding(sdlc::specs::Within::hears_on))]
 pub fn hears_within(s: Listener, bit: bool) -> bool
     ensures { result ≡ hears_on s bit }
 {
@@ -46,6 +41,7 @@ pub fn hears_within(s: Listener, bit: bool) -> bool
 }
 
 // The receiver after it, if so.
+#[tactic(auto, unfolding(sdlc::specs::Within::moved_on))]
 pub fn hear_within(s: Listener, b: bool) -> Listener
     ensures { result ≡ moved_on s b }
 {
@@ -56,15 +52,14 @@ pub fn hear_within(s: Listener, b: bool) -> Listener
     let chars = Chars {
         count: count_after(k.count),
         part: shift_in(out, k.part),
-        have: k.have,
-        held: k.held,
+        ..k
     };
     Listener {
         content: Content {
             hunt: false,
             skip: false,
             ones: ones_after(b, was.ones),
-            delay: FULL + d % 64 * 2 + bit(b),
+            delay: FULL + d % 64 * 2 + u8::from(b),
             chars,
         },
         check: check_step(SDLC, s.check, out),

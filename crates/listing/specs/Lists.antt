@@ -1,13 +1,12 @@
 -- 01, Note list and line, and rows 5 to 7 of its table: small lists, and how each is read.
 -- Assumes nothing.
-use Rattle.std.specs.Prelude.{◌≡◌, refl, [], ◌∷◌}
+use Rattle.std.specs.Prelude.{◌≡◌, refl, [], ◌∷◌, Ok, Err}
 use Rattle.common.specs.declared.Refusal.TheVariants.{NoList, NoteLength, CutList}
 use Rattle.line.specs.Bits.{low_bits, text_bits}
 use Rattle.line.specs.Check.{check_step, check_over, top_bits, check_bits}
 use Rattle.line.specs.Insertion.{zeros}
 use Rattle.head.specs.NoteHead.{head_of}
 use Rattle.notes.specs.NoteList.{whole, refuses, read_from, rest_from, read_list}
-use Rattle.zeros.specs.declared.Counted.TheVariants as counted
 use Rattle.zeros.specs.Zeros.{count_of}
 use Rattle.listing.specs.Reads.{reads, counts}
 
@@ -30,12 +29,12 @@ pub record Told : Type 0 where
   -- "the first bad note decides"
   pub first_bad : reads (1 ∷ 0 ∷ 1 ∷ 0x41 ∷ 0 ∷ 0 ∷ 0 ∷ 9 ∷ []) ≡ refuses NoteLength
   -- "it returns the zeros inserted": marked examples 1 to 3; over two bytes, and into the check
-  pub zeros_00 : counts (0x00 ∷ []) ≡ counted.Zeros 0
-  pub zeros_ff : counts (0xFF ∷ []) ≡ counted.Zeros 2
-  pub zeros_88 : counts (0x88 ∷ []) ≡ counted.Zeros 1
-  pub over_bytes : counts (0xE0 ∷ 0x03 ∷ []) ≡ counted.Zeros 1
-  pub into_check : counts (0xF0 ∷ []) ≡ counted.Zeros 2
-  pub no_note : counts [] ≡ counted.Refused NoteLength
+  pub zeros_00 : counts (0x00 ∷ []) ≡ Ok 0
+  pub zeros_ff : counts (0xFF ∷ []) ≡ Ok 2
+  pub zeros_88 : counts (0x88 ∷ []) ≡ Ok 1
+  pub over_bytes : counts (0xE0 ∷ 0x03 ∷ []) ≡ Ok 1
+  pub into_check : counts (0xF0 ∷ []) ≡ Ok 2
+  pub no_note : counts [] ≡ Err NoteLength
 
 pub told : Told
 unfolding

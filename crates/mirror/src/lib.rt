@@ -9,7 +9,7 @@ ghost use Rattle.mirror.specs.Mirror.{mirrored_byte};
 pub fn mirrored_byte(m: u16, v: u8) -> u16
     ensures { result ≡ mirrored_byte m v }
 {
-    let met = m ^ (v as u16);
+    let met = m ^ u16::from(v);
     let low = met % 256;
     let folded = low ^ (low % 16 * 16);
     let back = (folded * 256) ^ (folded * 8) ^ (folded / 16);

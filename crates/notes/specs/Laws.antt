@@ -1,3 +1,4 @@
--- The laws of the note list: its reading, and its putting together.
+-- The laws of the note list: its reading, its notes one behind the other, and its putting together.
 pub mod Reading
+pub mod Notes
 pub mod Together

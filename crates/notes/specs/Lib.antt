@@ -1,3 +1,4 @@
 pub mod Scanned
 pub mod NoteList
+pub mod Notes
 pub mod Laws

@@ -1,15 +1,11 @@
 -- 01, Note list and line: what a list is, and how it is read. Assumes nothing.
-use Rattle.std.specs.Prelude.{◌≡◌, true, not, ℕ, zero, suc, ◌+◌, ◌/◌, ◌%◌, eqb, ltb, length, get_or, if◌then◌else◌}
+use Rattle.std.specs.Prelude.{◌≡◌, true, not, Result, Ok, Err, Some, None, ℕ, zero, suc, ◌+◌, ◌/◌, ◌%◌, eqb, ltb, length, get_or, if◌then◌else◌}
 use mathlib.Core.List.{List, [], ◌∷◌, ◌++◌, foldl}
 use Rattle.common.specs.Refusal.{number_of}
 use Rattle.common.specs.declared.Refusal.{Refusal}
 use Rattle.common.specs.declared.Refusal.TheVariants.{NoList, LongList}
 use Rattle.line.specs.Line.{note_fits}
-use Rattle.head.specs.declared.Head.{Head}
-use Rattle.head.specs.declared.Head.TheVariants.{End, Note, Bad}
-use Rattle.head.specs.NoteHead.{length_bytes, text_at, head_of}
-use Rattle.notes.specs.declared.Scanned.{Scanned}
-use Rattle.notes.specs.declared.Scanned.TheVariants.{Notes, Refused}
+use Rattle.head.specs.NoteHead.{length_bytes, text_at, Head, head_of}
 
 -- A list of notes
 
@@ -48,9 +44,9 @@ in_front note (refuses k) = refuses k
 
 -- "the first bad note decides": rest is the reading after a note of k bytes
 abbrev pub read_head : List ℕ → ℕ → Head → (ℕ → Reading) → Reading
-read_head list i End rest = whole []
-read_head list i (Note k) rest = in_front (text_at list i k) (rest k)
-read_head list i (Bad k) rest = refuses k
+read_head list i (Ok None) rest = whole []
+read_head list i (Ok (Some k)) rest = in_front (text_at list i k) (rest k)
+read_head list i (Err k) rest = refuses k
 
 -- at most so many notes, from place i on
 unfoldable pub read_from : ℕ → List ℕ → ℕ → Reading
@@ -79,9 +75,9 @@ read_list list =
     else rest_from list first_note))
 
 -- the scan's answer: the number of notes, or the refusal
-abbrev pub scanned : Reading → Scanned
-scanned (whole notes) = Notes (length notes)
-scanned (refuses k) = Refused k
+abbrev pub scanned : Reading → Result ℕ Refusal
+scanned (whole notes) = Ok (length notes)
+scanned (refuses k) = Err k
 
 -- a walk over what was read: a step with each note in its turn, then the finish; or the refusal
 abbrev pub walk : {S A : Type 0} → (S → List ℕ → S) → (S → A) → (Refusal → A) → S → Reading → A

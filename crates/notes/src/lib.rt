@@ -1,12 +1,13 @@
-// The note list: the check of a whole list. Assumes nothing.
+// The note list: the check of a whole list, and its notes one behind the other. Assumes nothing.
 #![tactic(auto)]
 
-ghost use Rattle.notes.specs.Scanned.{scanned_number, scanned_notes};
 ghost use Rattle.std.specs.Prelude.{◌≡◌};
+ghost use Rattle.std.specs.Iterator.{YieldsFirstRef, item_count};
 ghost use Rattle.notes.specs.NoteList.{read_list, scanned};
+ghost use Rattle.notes.specs.Notes.{notes_of, notes_left};
 
 use common::Refusal;
-use head::{Head, LENGTH_BYTES, head_at};
+use head::{LENGTH_BYTES, head_at};
 
 // The version byte that opens a list.
 pub const VERSION: u8 = 1;
@@ -15,64 +16,64 @@ pub const FIRST_NOTE: usize = 1;
 // A list has at most so many bytes.
 pub const LONGEST_LIST: usize = 65535;
 
-// A whole list: how many notes it has, or why it is refused.
-#[derive(Clone, Copy)]
-pub enum Scanned {
-    Notes(usize),
-    Refused(Refusal),
-}
-
-impl Scanned {
-    // The paper's number of the refusal, 0 for none.
-    pub fn number(self) -> u8
-        ensures { result ≡ scanned_number self }
-    {
-        match self {
-            Scanned::Notes(_) => 0,
-            Scanned::Refused(k) => k.number(),
-        }
-    }
-
-    // How many notes, 0 for a refusal.
-    pub fn notes(self) -> usize
-        ensures { result ≡ scanned_notes self }
-    {
-        match self {
-            Scanned::Notes(n) => n,
-            Scanned::Refused(_) => 0,
-        }
-    }
-}
-
-// The whole list, note by note; the first bad note decides.
-pub fn scan(list: &[u8]) -> Scanned
+// The whole list, note by note: how many notes it has, or why it is refused; the first bad note decides. The loop is left from inside by its
+// label, as document 01 asks.
+#[tactic(auto, unfolding(crate::specs::NoteList::read_list))]
+pub fn scan(list: &[u8]) -> Result<usize, Refusal>
     ensures { result ≡ scanned (read_list list.now) }
 {
     if LONGEST_LIST < list.len() {
-        return Scanned::Refused(Refusal::LongList);
+        return Err(Refusal::LongList);
     }
-    if list.len() == 0 {
-        return Scanned::Refused(Refusal::NoList);
-    }
-    if list[0] != VERSION {
-        return Scanned::Refused(Refusal::NoList);
+    if list.is_empty() || list[0] != VERSION {
+        return Err(Refusal::NoList);
     }
     let mut i = FIRST_NOTE;
-    let mut n: usize = 0;
-    let found = 'notes: loop {
-        let h = head_at(list, i);
-        match h {
-            Head::End => {
-                break 'notes Scanned::Notes(n);
+    let mut n = 0;
+    'notes: loop {
+        match head_at(list, i) {
+            Ok(None) => break 'notes Ok(n),
+            Ok(Some(k)) => {
+                i += LENGTH_BYTES + k;
+                n += 1;
             }
-            Head::Note(k) => {
-                i = i + LENGTH_BYTES + k;
-                n = n + 1;
-            }
-            Head::Bad(k) => {
-                break 'notes Scanned::Refused(k);
-            }
+            Err(k) => break 'notes Err(k),
         }
-    };
-    found
+    }
+}
+
+// The notes of a list, up to the first that is none or bad: each a part of the list, without a copy.
+#[derive(Drop)]
+pub struct Notes<'a> {
+    list: &'a [u8],
+    at: usize,
+}
+
+impl<'a> Notes<'a> {
+    // From the first on.
+    pub fn of(list: &'a [u8]) -> Notes<'a>
+        ensures { notes_left result ≡ notes_of list.now }
+    {
+        Notes {
+            list,
+            at: FIRST_NOTE,
+        }
+    }
+}
+
+impl<'a> Iterator for Notes<'a> {
+    type Item = &'a [u8];
+
+    ghost next_gives = { YieldsFirstRef notes_left };
+
+    ghost remaining = { item_count notes_left };
+
+    fn next(&mut self) -> Option<&'a [u8]> {
+        let Ok(Some(k)) = head_at(self.list, self.at) else {
+            return None;
+        };
+        let text = self.at + LENGTH_BYTES;
+        self.at = text + k;
+        Some(&self.list[text..self.at])
+    }
 }

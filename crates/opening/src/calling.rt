@@ -23,25 +23,25 @@ pub(crate) const SDLC_MODE: u8 = 0b00100000;
 pub(crate) const SEND_CHECKED: u8 = 0b01101001;
 
 // A control write.
+#[tactic(auto, unfolding(drive::specs::Drive::control_a))]
 pub(crate) fn control(c: Chip, v: u8) -> Chip
     ensures { result ≡ control_a c v }
 {
-    let o = c.control_write(CHANNEL_A, v);
-    o.chip
+    c.control_write(CHANNEL_A, v).chip
 }
 
 // A data write.
+#[tactic(auto, unfolding(drive::specs::Drive::write_a))]
 pub(crate) fn write(c: Chip, v: u8) -> Chip
     ensures { result ≡ write_a c v }
 {
-    let o = c.data_write(CHANNEL_A, v);
-    o.chip
+    c.data_write(CHANNEL_A, v).chip
 }
 
 // A look at RR0.
+#[tactic(auto, unfolding(drive::specs::Drive::look_a))]
 pub(crate) fn look(c: Chip) -> Chip
     ensures { result ≡ look_a c }
 {
-    let o = c.control_read(CHANNEL_A);
-    o.chip
+    c.control_read(CHANNEL_A).chip
 }

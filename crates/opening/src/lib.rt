@@ -7,7 +7,7 @@ mod calling;
 mod putback;
 mod ready;
 
-ghost use Rattle.std.specs.Prelude.{◌≡◌, [], ◌<◌};
+ghost use Rattle.std.specs.Prelude.{◌≡◌, []};
 ghost use Rattle.drive.specs.Drive.{driven, ticks_to_flag, flag_ended, frame_opened};
 ghost use Rattle.drive.specs.Framer.{chip_with};
 
@@ -19,25 +19,14 @@ use flags::FLAG;
 use sdlc::{Framer, LineUnit};
 
 // So many transmit ticks, with nothing to write, by the channel's own method: a station ticks no other channel.
+#[tactic(auto, using(drive::proofs::Laws::Frame::driven_none))]
 pub fn ticked(mut c: Chip, n: usize) -> Chip
     ensures { result ≡ driven n c [] }
 {
-    let mut left = n;
-    while 0 < left {
-        let o = c.a.transmit_tick();
-        let a = o.channel;
-        c.a = a;
-        left = left - 1;
+    for _ in 0..n {
+        c.a = c.a.transmit_tick().channel;
     }
     c
-}
-
-// A count of bits, wide.
-fn wide(n: u8) -> usize
-    ensures value { result ≡ n }
-    ensures upper_bound { result < 256 }
-{
-    n as usize
 }
 
 // To the end of the flag that is under way, or of the next one.
@@ -46,24 +35,23 @@ fn ticks_to_flag(u: LineUnit) -> usize
 {
     match u {
         LineUnit::Mark => FLAG,
-        LineUnit::Flag(n) => wide(n),
-        LineUnit::Byte(_, _) => 0,
-        LineUnit::Check(_, _) => 0,
-        LineUnit::Abort(n) => wide(n) + FLAG,
+        LineUnit::Flag(n) => usize::from(n),
+        LineUnit::Abort(n) => usize::from(n) + FLAG,
+        LineUnit::Byte(_, _) | LineUnit::Check(_, _) => 0,
     }
 }
 
 // A flag has ended, and the next unit is still to be chosen.
+#[tactic(auto, unfolding(drive::specs::Drive::flag_ended))]
 fn flag_ended(mut c: Chip) -> Chip
     ensures { result ≡ flag_ended c }
 {
     c = prepared(c);
-    let s = c.a.sender;
-    let u = s.unit;
-    ticked(c, ticks_to_flag(u))
+    ticked(c, ticks_to_flag(c.a.sender.unit))
 }
 
 // There the check is preset, the latch cleared and the first byte written.
+#[tactic(auto, unfolding(drive::specs::Drive::frame_opened))]
 pub fn open_frame(mut c: Chip, v: u8) -> Chip
     ensures { result ≡ frame_opened c v }
 {

@@ -10,34 +10,29 @@ use sdlc::LineUnit;
 use sender::{Sender, Sending};
 
 // The sender can send a frame.
+#[tactic(auto, unfolding(drive::specs::Drive::can_send))]
 fn can_send(g: Sending) -> bool
     ensures { result ≡ can_send g }
 {
-    let m = g.mode;
-    (in_sdlc(m) & g.framing.on) & (g.framing.included & !g.broken)
+    (in_sdlc(g.mode) & g.framing.on) & (g.framing.included & !g.broken)
 }
 
 // Nothing of a frame is under way.
 fn between_frames(u: LineUnit) -> bool
     ensures { result ≡ between_frames u }
 {
-    match u {
-        LineUnit::Mark => true,
-        LineUnit::Flag(_) => true,
-        LineUnit::Byte(_, _) => false,
-        LineUnit::Check(_, _) => false,
-        LineUnit::Abort(_) => true,
-    }
+    matches!(u, LineUnit::Mark | LineUnit::Flag(_) | LineUnit::Abort(_))
 }
 
+#[tactic(auto, unfolding(drive::specs::Drive::stands_still))]
 fn stands_still(s: Sender) -> bool
     ensures { result ≡ stands_still s }
 {
-    let u = s.unit;
-    between_frames(u) & ((s.insertion.run == 0) & !s.insertion.owed)
+    between_frames(s.unit) & ((s.insertion.run == 0) & !s.insertion.owed)
 }
 
 // Channel Reset; then SDLC, eight bits, on, check included.
+#[tactic(auto, unfolding(drive::specs::Drive::set_up))]
 fn set_up(mut c: Chip) -> Chip
     ensures { result ≡ set_up c }
 {
@@ -49,21 +44,22 @@ fn set_up(mut c: Chip) -> Chip
 }
 
 // A channel that can send stays as it is set, and a frame that is under way in it is aborted; any other is set up.
+#[tactic(auto, unfolding(drive::specs::Drive::freed))]
 fn freed(c: Chip, g: Sending, s: Sender) -> Chip
     ensures { result ≡ freed c g s }
 {
-    let u = s.unit;
     let able = can_send(g);
     if able & stands_still(s) {
         return c;
     }
-    if able & !u.aborting() {
+    if able & !s.unit.aborting() {
         return control(c, SEND_ABORT);
     }
     set_up(c)
 }
 
 // Nothing is under way, the next control write goes to WR0, and a frame can be sent.
+#[tactic(auto, unfolding(drive::specs::Drive::prepared))]
 pub(crate) fn prepared(mut c: Chip) -> Chip
     ensures { result ≡ prepared c }
 {

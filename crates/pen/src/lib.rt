@@ -2,10 +2,10 @@
 // put down. Assumes nothing.
 #![tactic(auto)]
 
-ghost use Rattle.std.specs.Prelude.{◌≡◌, [], ◌∷◌, ◌+◌, ◌-◌, ◌≤◌, ltb, length};
+ghost use Rattle.std.specs.Prelude.{◌≡◌, [], ◌∷◌, ◌+◌, ◌≤◌, length};
 ghost use Rattle.line.specs.Bits.{odd};
 ghost use Rattle.line.specs.Insertion.{stuff};
-ghost use Rattle.pen.specs.Pen.{sheet, bits_put, byte_cells, byte_put, flag_put};
+ghost use Rattle.pen.specs.Pen.{sheet, bits_put, byte_put, flag_put};
 
 use line::Insertion;
 
@@ -16,30 +16,12 @@ pub struct Pen {
     pub run: u8,
 }
 
-// The most cells that a byte takes, eight bits and two zeros, and those of a flag.
+// The most cells that a byte takes, eight bits and two zeros.
 const BYTE_CELLS: usize = 10;
-
+// The flag's cells.
 const FLAG_CELLS: usize = 8;
-// The flag, its first bit lowest.
-const FLAG: u8 = 0b01111110;
 
-// The cells from a place on; none if it is past the end.
-pub fn room_from(len: usize, at: usize) -> usize
-    ensures { result ≡ len - at }
-{
-    if len < at { 0 } else { len - at }
-}
-
-// Whether fewer cells than a byte's are left from a place on. The bound does not hang on the place,
-// so that a loop works it out once.
-fn lacks_cells(len: usize, at: usize) -> bool
-    ensures { result ≡ ltb (len - at) byte_cells }
-{
-    if len < BYTE_CELLS {
-        return true;
-    }
-    len - BYTE_CELLS < at
-}
+const FLAG: [u8; 8] = [0, 1, 1, 1, 1, 1, 1, 0];
 
 // The low bit of v, with the zero that it owes.
 fn put_bit(out: &mut [u8], p: Pen, v: u8) -> Pen
@@ -69,16 +51,14 @@ pub fn put_byte(out: &mut [u8], p: Pen, v: u8) -> Pen
     ensures value { result ≡ (byte_put (sheet out.old p) v).pen }
     ensures out_after { out.new ≡ (byte_put (sheet out.old p) v).buffer }
 {
-    if lacks_cells(out.len(), p.at) {
+    if out.len().saturating_sub(p.at) < BYTE_CELLS {
         return p;
     }
     let mut q = p;
     let mut rest = v;
-    let mut left: u8 = 8;
-    while 0 < left {
+    for _ in 0..8u8 {
         q = put_bit(out, q, rest);
-        rest = rest / 2;
-        left = left - 1;
+        rest /= 2;
     }
     q
 }
@@ -87,16 +67,8 @@ pub fn put_byte(out: &mut [u8], p: Pen, v: u8) -> Pen
 pub fn put_flag(out: &mut [u8], at: usize)
     ensures { out.new ≡ flag_put out.old at }
 {
-    if room_from(out.len(), at) < FLAG_CELLS {
+    if out.len().saturating_sub(at) < FLAG_CELLS {
         return;
     }
-    let mut i = at;
-    let mut rest = FLAG;
-    let mut left: u8 = 8;
-    while 0 < left {
-        out[i] = rest % 2;
-        i = i + 1;
-        rest = rest / 2;
-        left = left - 1;
-    }
+    out[at..at + FLAG_CELLS].copy_from_slice(&FLAG);
 }

@@ -1,16 +1,18 @@
 -- Known answers played on a chip, item by item. Assumes nothing.
-use Rattle.std.specs.Prelude.{◌||◌, List, ℕ, zero, suc, eqb, ltb, if◌then◌else◌}
+use Rattle.std.specs.Prelude.{List, ℕ, zero, suc, if◌then◌else◌}
 use Rattle.channel.specs.declared.Answer.{Answer}
 use Rattle.channel.specs.declared.Answer.TheVariants.{Done, Gave}
 use Rattle.channel.specs.Answer.{answer_number, answer_value}
 use Rattle.chip.specs.declared.Chip.{Chip}
 use Rattle.chip.specs.declared.Outcome.{Outcome}
 use Rattle.chip.specs.Chip.{outcome, hard_reset}
-use Rattle.script.specs.Step.{step}
+use Rattle.chip.specs.Event.{step}
+use Rattle.script.specs.Step.{event_of, said}
 use Rattle.script.specs.Shown.{register_of}
-use Rattle.items.specs.declared.Item.{Item}
+use Rattle.items.specs.declared.Kind.{Kind}
+use Rattle.items.specs.declared.Kind.TheVariants.{Event, NoteList, SharedList}
 use Rattle.items.specs.declared.Sheet.{Sheet}
-use Rattle.items.specs.Item.{register_kind, list_kind, shared_list_kind, stop_kind}
+use Rattle.items.specs.Kind.{stops}
 use Rattle.items.specs.Sheet.{start_sheet, answered, dealt_sheet, dealt_desk, items_left}
 use Rattle.items.specs.Lines.{told}
 use Rattle.calls.specs.Calls.{value_of}
@@ -18,21 +20,26 @@ use Rattle.playing.specs.List.{list_gave}
 
 -- An item
 
-abbrev pub event_outcome : Chip → Item → Outcome
-event_outcome c i = step c i.kind i.x i.y i.z
-
 -- what a call gives that is no event: a list went through the chip, or the register is looked at
 -- that the item may name
-unfoldable pub other_value : Chip → Sheet → List ℕ → ℕ
-other_value c s desk =
-    if eqb s.item.kind list_kind || eqb s.item.kind shared_list_kind then list_gave s desk
-    else value_of s (register_of c s.item.x s.item.y) desk
+abbrev pub called_value : Chip → Sheet → List ℕ → ℕ
+called_value c s desk = value_of s (register_of c s.item.x s.item.y) desk
+
+abbrev pub value_for : Kind → Chip → Sheet → List ℕ → ℕ
+value_for NoteList c s desk = list_gave s desk
+value_for SharedList c s desk = list_gave s desk
+value_for _ c s desk = called_value c s desk
+
+abbrev pub other_value : Chip → Sheet → List ℕ → ℕ
+other_value c s desk = value_for s.item.kind c s desk
 
 -- an event answers and changes the chip; no answer asks for the chip behind another call
+abbrev pub turned_for : Kind → Chip → Sheet → List ℕ → Outcome
+turned_for (Event code) c s desk = step c (said (event_of code s.item.x s.item.y s.item.z))
+turned_for _ c s desk = outcome (Gave (other_value c s desk)) c
+
 unfoldable pub turned : Chip → Sheet → List ℕ → Outcome
-turned c s desk =
-    if ltb s.item.kind register_kind then event_outcome c s.item
-    else outcome (Gave (other_value c s desk)) c
+turned c s desk = turned_for s.item.kind c s desk
 
 -- All items
 
@@ -73,7 +80,7 @@ round input p = behind input p (turned p.chip p.sheet p.desk)
 unfoldable pub rounds : ℕ → List ℕ → Play → Play
 rounds zero input p = p
 rounds (suc n) input p =
-    if eqb p.sheet.item.kind stop_kind then p else rounds n input (round input p)
+    if stops p.sheet.item.kind then p else rounds n input (round input p)
 
 -- as many as there can be
 abbrev pub all_rounds : List ℕ → Play → Play

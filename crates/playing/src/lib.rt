@@ -4,6 +4,7 @@
 mod list;
 
 ghost use Rattle.std.specs.Prelude.{◌≡◌};
+ghost use Rattle.items.specs.Kind.{stops};
 ghost use Rattle.items.specs.Sheet.{dealt_sheet, dealt_desk};
 ghost use Rattle.items.specs.Lines.{told};
 ghost use Rattle.playing.specs.Playing.{other_value, turned, judged, at_first, playing, all_rounds, played};
@@ -11,28 +12,30 @@ ghost use Rattle.playing.specs.Playing.{other_value, turned, judged, at_first, p
 use crate::list::list_value;
 use channel::Answer;
 use chip::{Chip, Outcome};
-use items::Sheet;
+use items::{Kind, Sheet};
+use script::Event;
 
 // What a call other than an event gives.
 fn value_of(c: Chip, s: Sheet, desk: &[u8]) -> u8
     ensures { result ≡ other_value c s desk.now }
 {
-    if (s.item.kind == items::LIST) | (s.item.kind == items::SHARED_LIST) {
-        return list_value(c, s, desk);
+    match s.item.kind {
+        Kind::NoteList | Kind::SharedList => list_value(c, s, desk),
+        _ => calls::value_of(s, script::register(c, s.item.x, s.item.y), desk),
     }
-    calls::value_of(s, script::register(c, s.item.x, s.item.y), desk)
 }
 
 // What an event answers; of any other item the value of its call, and the chip as it is: no answer asks for the chip behind a list.
+#[tactic(auto, unfolding(crate::specs::Playing::turned))]
 fn turned(c: Chip, s: Sheet, desk: &[u8]) -> Outcome
     ensures { result ≡ turned c s desk.now }
 {
-    if s.item.kind < items::REGISTER {
-        return script::step(c, s.item.kind, s.item.x, s.item.y, s.item.z);
-    }
-    Outcome {
-        answer: Answer::Gave(value_of(c, s, desk)),
-        chip: c,
+    match s.item.kind {
+        Kind::Event(code) => script::step(c, Event::of(code, s.item.x, s.item.y, s.item.z)),
+        _ => Outcome {
+            answer: Answer::Gave(value_of(c, s, desk)),
+            chip: c,
+        },
     }
 }
 
@@ -45,16 +48,22 @@ fn next(s: Sheet, input: &[u8], desk: &mut [u8], out: &mut [u8], w: Answer) -> S
     items::next(s, input, desk, out, w.number(), w.value())
 }
 
-// All items that are left, from the chip behind this answer on.
+// There is no more.
+fn stops(kind: Kind) -> bool
+    ensures { result ≡ stops kind }
+{
+    kind == Kind::Stop
+}
+
+// All items that are left, from the chip behind this answer on; an item says itself that it is the last, so this is a while.
 fn all_rounds(mut t: Outcome, mut s: Sheet, input: &[u8], desk: &mut [u8], out: &mut [u8]) -> Sheet
     ensures value { result ≡ (all_rounds input.now (playing s t.chip desk.old out.old)).sheet }
     ensures desk_after { desk.new ≡ (all_rounds input.now (playing s t.chip desk.old out.old)).desk }
     ensures out_after { out.new ≡ (all_rounds input.now (playing s t.chip desk.old out.old)).out }
 {
-    while s.item.kind != items::STOP {
+    while !stops(s.item.kind) {
         t = turned(t.chip, s, desk);
-        let w = t.answer;
-        s = next(s, input, desk, out, w);
+        s = next(s, input, desk, out, t.answer);
     }
     s
 }
@@ -70,6 +79,7 @@ fn start() -> Outcome
 }
 
 // All items are played from there on, one after another, and the cases told.
+#[tactic(auto, unfolding(crate::specs::Playing::played))]
 pub fn play(input: &[u8], desk: &mut [u8], out: &mut [u8]) -> Sheet
     ensures value { result ≡ (played input.now desk.old out.old).sheet }
     ensures desk_after { desk.new ≡ (played input.now desk.old out.old).desk }

@@ -1,10 +1,11 @@
 -- In time by the eight-tick rule means that what is loaded is what was written. Assumes nothing.
-use Rattle.std.specs.Prelude.{◌≡◌, refl, Bool, true, false, List, [], ◌∷◌, ◌++◌, ℕ, zero, suc, ◌+◌, ◌≤◌, length}
+use Rattle.std.specs.Prelude.{◌≡◌, refl, Bool, true, false, List, [], ◌∷◌, ◌++◌, ℕ, zero, suc, ◌+◌, ◌≤◌, length, Some, None}
 use Rattle.std.proofs.Common.{sym, ap, ◌∙◌, append_assoc, append-nil, arith, length-append}
 use Rattle.std.proofs.Math.Dec.{eqb-suc-zero}
 use Rattle.common.specs.Tools.{bool_or, void}
 use Rattle.line.specs.Frame.{frame}
 use Rattle.line.specs.Laws.Frame.{ticks_are}
+use Rattle.shared.specs.Shared.{full}
 use Rattle.sdlc.specs.declared.Framer.{Framer}
 use Rattle.sdlc.specs.declared.Framed.{Framed}
 use Rattle.chip.specs.declared.Chip.{Chip}
@@ -30,47 +31,47 @@ use Rattle.punctual.specs.Statement.{InTimeLoads}
 use Rattle.hosts.proofs.Line.{skip_loaded, skip_passed, tick_loaded, tick_passed}
 
 stage_going : {s : Framer} {n : ℕ} {rest : List ℕ} → Stage false s n rest → Going s
-stage_going (opening k b f c n rest m p) = steps.opening k b f c
-stage_going (in_byte k v r o b f c n rest m) = steps.in_byte k v r o b f c
-stage_going (in_check k v r o b f c n) = steps.in_check k v r o b f c
-stage_going (closing k b f c n) = steps.closing k b f c
+stage_going (opening k b c n rest m p) = steps.opening k b c
+stage_going (in_byte k v r o b c n rest m) = steps.in_byte k v r o b c
+stage_going (in_check k v r o b c n) = steps.in_check k v r o b c
+stage_going (closing k b c n) = steps.closing k b c
 
 -- once the latch is set nothing is left to write
 latched_none : {s : Framer} {n : ℕ} {rest : List ℕ} → Stage false s n rest → s.shared.latch ≡ true
     → rest ≡ []
-latched_none (opening k b f c n rest m p) e = void e
-latched_none (in_byte k v r o b f c n rest m) e = void e
-latched_none (in_check k v r o b f c n) e = refl
-latched_none (closing k b f c n) e = refl
+latched_none (opening k b c n rest m p) e = void e
+latched_none (in_byte k v r o b c n rest m) e = void e
+latched_none (in_check k v r o b c n) e = refl
+latched_none (closing k b c n) e = refl
 
 -- no flag passes in time
 not_idle : {s : Framer} {n : ℕ} {rest : List ℕ} → Stage false s n rest
-    → in_time s.shared.full n rest ≡ true
+    → in_time (full s.shared) n rest ≡ true
     → idles s ≡ false
-not_idle (opening k b true c n rest m p) t = refl
-not_idle (opening (suc k) b false c n rest m p) t = eqb-suc-zero k
-not_idle (opening zero b false c n [] m p) t = absurd p
-not_idle (opening zero b false c n (v ∷ rest) m p) t = absurd (too_late n t (omega arith))
-not_idle (in_byte k v r o b true c n rest m) t = refl
-not_idle (in_byte k v r o b false c n rest m) t = refl
-not_idle (in_check k v r o b f c n) t = refl
-not_idle (closing k b f c n) t = refl
+not_idle (opening k (Some b) c n rest m p) t = refl
+not_idle (opening (suc k) None c n rest m p) t = eqb-suc-zero k
+not_idle (opening zero None c n [] m p) t = absurd p
+not_idle (opening zero None c n (v ∷ rest) m p) t = absurd (too_late n t (omega arith))
+not_idle (in_byte k v r o (Some b) c n rest m) t = refl
+not_idle (in_byte k v r o None c n rest m) t = refl
+not_idle (in_check k v r o b c n) t = refl
+not_idle (closing k b c n) t = refl
 
 -- a write in time is meant for this frame, one behind the latch is not
 write_meant : {s : Framer} {n v : ℕ} {rest : List ℕ} → Stage false s n (v ∷ rest)
-    → s.shared.full ≡ false
+    → full s.shared ≡ false
     → meant (filled_with s v) rest ≡ meant s (v ∷ rest)
-write_meant (opening k b true c n rest m p) e = void (sym e)
-write_meant (opening k b false c n rest m p) e = refl
-write_meant (in_byte k x r o b true c n rest m) e = void (sym e)
-write_meant (in_byte k x r o b false c n rest m) e = refl
+write_meant (opening k (Some b) c n rest m p) e = void (sym e)
+write_meant (opening k None c n rest m p) e = refl
+write_meant (in_byte k x r o (Some b) c n rest m) e = void (sym e)
+write_meant (in_byte k x r o None c n rest m) e = refl
 
 later_meant : {s : Framer} {n : ℕ} (v : ℕ) → Stage false s n [] → s.shared.latch ≡ true
     → meant (filled_with s v) [] ≡ meant s []
-later_meant v (opening k b f c n rest m p) e = void e
-later_meant v (in_byte k x r o b f c n rest m) e = void e
-later_meant v (in_check k x r o b f c n) e = refl
-later_meant v (closing k b f c n) e = refl
+later_meant v (opening k b c n rest m p) e = void e
+later_meant v (in_byte k x r o b c n rest m) e = void e
+later_meant v (in_check k x r o b c n) e = refl
+later_meant v (closing k b c n) e = refl
 
 -- at the end of a story in time: what was loaded and what is still meant are what was meant
 record Loads (w : Which) (c : Chip) (st : List Event) (s : Framer)
@@ -130,7 +131,7 @@ loads w {left} (still {c = c} {rest = rest} {e = x} {st = st} r k i) s e g l =
     skip_loads w c x st s s rest rest left z (hosts.still r k) refl refl
     (loads w i s (k ∙ e) g (omega (arith, skip_ticks w x st z)))
 loads w {left} (writes {c = c} {v = v} {rest = rest} {st = st} f i) s e g l =
-    let q = sym (ap (λ (x : SenderSide). x.sender.shared.full) e) ∙ f in
+    let q = sym (ap (λ (x : SenderSide). full x.sender.shared) e) ∙ f in
     let y = moves g q in
     let z = write_no_tick w v in
     let x = DataWrite (number w) v in
@@ -189,16 +190,15 @@ ended_meant {s} g z =
   where
     go : {s : Framer} {n : ℕ} → Stage false s n [] → length (to_come s []) ≡ 0 → frame_ended s ≡ true
         → (meant s [] ≡ []) × (frame_ended s ≡ true)
-    go (opening k b f c n _ m p) z e = void e
-    go (in_byte k x r o b f c n _ m) z e = void e
-    go (in_check k x r o b f c n) z e = void e
-    go (closing k b f c n) z e = (refl, e)
+    go (opening k b c n _ m p) z e = void e
+    go (in_byte k x r o b c n _ m) z e = void e
+    go (in_check k x r o b c n) z e = void e
+    go (closing k b c n) z e = (refl, e)
 
 pub in_time_loads : InTimeLoads
 in_time_loads w c p v vs st s i n =
-    let b = (chan w c).sender.shared.buffer in
-    let x = started p b in
-    let a = at_start p b (v ∷ vs) s.some s.inside in
+    let x = started p in
+    let a = at_start p (v ∷ vs) s.some s.inside in
     let size : p + length (to_come x (v ∷ vs)) ≡ length (frame (v ∷ vs)) =
     omega (
       arith,
@@ -207,7 +207,7 @@ in_time_loads w c p v vs st s i n =
       ap length a,
     ) in
     let k =
-    loads w i x (start_side w c p s) (start_stage p b v vs s.some s.inside)
+    loads w i x (start_side w c p s) (start_stage p v vs s.some s.inside)
     (omega (arith, size, ticks_are (v ∷ vs))) in
     let z = ended_meant k.stage (omega (arith, size, ticks_are (v ∷ vs), k.short)) in
     record {

@@ -6,7 +6,7 @@ ghost use Rattle.queue.specs.Queue.{empty, pushed, taken, oldest, waits, error_r
 
 use entry::Entry;
 
-// The entries, oldest first; count of them wait. parity and overrun are RR1's latches D4 and D5.
+// The entries, oldest first, in an array of three by value, as document 01 asks; count of them wait. parity and overrun are RR1's latches D4 and D5.
 #[derive(Clone, Copy)]
 pub struct Queue {
     pub count: u8,
@@ -19,13 +19,6 @@ pub struct Queue {
 const ROOM: u8 = 3;
 
 const NEWEST: usize = 2;
-
-// A place in an array.
-fn wide(n: u8) -> usize
-    ensures { result ≡ n }
-{
-    n as usize
-}
 
 impl Queue {
     // A reset queue.
@@ -42,60 +35,59 @@ impl Queue {
     }
 
     // A character arrives; a fourth replaces the newest and is marked overrun.
+    #[tactic(auto, unfolding(crate::specs::Queue::pushed), using(common::specs::Tools::tests))]
     pub fn push(self, e: Entry) -> Queue
         ensures { result ≡ pushed self e }
     {
-        let n = self.count;
-        let mut es = self.entries;
-        if n == 0 {
-            es[0] = e;
+        let mut entries = self.entries;
+        if self.count == 0 {
+            entries[0] = e;
             return Queue {
-                entries: es,
                 count: 1,
+                entries,
                 parity: e.parity | self.parity,
                 overrun: e.overrun | self.overrun,
             };
         }
-        if n < ROOM {
-            let k = wide(n);
-            es[k] = e;
+        if self.count < ROOM {
+            entries[usize::from(self.count)] = e;
             return Queue {
-                entries: es,
-                count: n + 1,
-                parity: self.parity,
-                overrun: self.overrun,
+                count: self.count + 1,
+                entries,
+                ..self
             };
         }
-        es[NEWEST] = e.overran();
-        Queue {
-            entries: es,
-            count: n,
-            parity: self.parity,
-            overrun: self.overrun,
-        }
+        entries[NEWEST] = e.overran();
+        Queue { entries, ..self }
     }
 
     // A data read takes the oldest, if one waits.
+    #[tactic(auto, unfolding(crate::specs::Queue::taken), using(common::specs::Tools::tests))]
     pub fn take(self) -> Queue
         ensures { result ≡ taken self }
     {
-        let n = self.count;
-        if n == 0 {
+        if self.count == 0 {
             return self;
         }
-        let a = self.entries[1];
-        let es = [a, self.entries[2], Entry::none()];
-        // the next one becomes the oldest, if one waits
-        let next = n != 1;
+        let next = self.entries[1];
+        let entries = [next, self.entries[2], Entry::none()];
+        if self.count == 1 {
+            return Queue {
+                count: 0,
+                entries,
+                ..self
+            };
+        }
         Queue {
-            entries: es,
-            count: n - 1,
-            parity: (next & a.parity) | self.parity,
-            overrun: (next & a.overrun) | self.overrun,
+            count: self.count - 1,
+            entries,
+            parity: next.parity | self.parity,
+            overrun: next.overrun | self.overrun,
         }
     }
 
     // The oldest entry, or none.
+    #[tactic(auto, unfolding(crate::specs::Queue::oldest), using(common::specs::Tools::tests))]
     pub fn oldest(self) -> Entry
         ensures { result ≡ oldest self }
     {
@@ -116,33 +108,35 @@ impl Queue {
     pub fn error_reset(self) -> Queue
         ensures { result ≡ error_reset self }
     {
-        let mut q = self;
-        q.parity = false;
-        q.overrun = false;
-        q
+        Queue {
+            parity: false,
+            overrun: false,
+            ..self
+        }
     }
 
     // RR1 as it is read.
+    #[tactic(auto, unfolding(crate::specs::Queue::rr1))]
     pub fn rr1(self, sent: bool) -> u8
         ensures { result ≡ rr1 self sent }
     {
-        let e = self.oldest();
-        e.rr1(sent, self.parity, self.overrun)
+        self.oldest().rr1(sent, self.parity, self.overrun)
     }
 
     // RR1 with D6 told.
+    #[tactic(auto, unfolding(crate::specs::Queue::rr1_told))]
     pub fn rr1_told(self, sent: bool, error: bool) -> u8
         ensures { result ≡ rr1_told self sent error }
     {
-        let e = self.oldest();
-        e.rr1_with(sent, self.parity, self.overrun, error)
+        self.oldest()
+            .rr1_with(sent, self.parity, self.overrun, error)
     }
 
     // Whether the oldest entry is special; a wrong parity counts in receive interrupt mode 2 alone.
+    #[tactic(auto, unfolding(crate::specs::Queue::special))]
     pub fn special(self, parity: bool) -> bool
         ensures { result ≡ special self parity }
     {
-        let e = self.oldest();
-        e.special(parity)
+        self.oldest().special(parity)
     }
 }

@@ -1,6 +1,7 @@
 -- 01, Interrupts and external status: the sources of two channels, RR2, which stay in service under
 -- a control write, and what an acknowledge takes. Assumes nothing.
-use Rattle.std.specs.Prelude.{Bool, ◌&&◌, ℕ, eqb, if◌then◌else◌}
+use Rattle.std.specs.Prelude.{Bool, ◌&&◌, ℕ, eqb, Option, if◌then◌else◌}
+use Rattle.interrupts.specs.declared.Source.{Source}
 use Rattle.interrupts.specs.declared.Six.{Six}
 use Rattle.interrupts.specs.Interrupts.{no_sources, six, highest, may_take, acknowledged, ended}
 use Rattle.vector.specs.declared.Special.{Special}
@@ -40,9 +41,9 @@ abbrev pub special_both : Channel → Channel → Special
 special_both a b = record { a = special_waits a; b = special_waits b }
 
 -- the vector of a source: "WR2: vector, B only", "D2 status affects vector (B)"
-abbrev pub vector_at : Channel → Channel → ℕ → ℕ
-vector_at a b level =
-    vector_of b.registers.wr2 (status_affects b.registers.wr1) level (special_both a b)
+abbrev pub vector_at : Channel → Channel → Option Source → ℕ
+vector_at a b source =
+    vector_of b.registers.wr2 (status_affects b.registers.wr1) source (special_both a b)
 
 -- "RR2 that of the highest pending"
 abbrev pub vector_both : Channel → Channel → ℕ

@@ -9,7 +9,7 @@ ghost use Rattle.reading.specs.Both.{special_both, vector_at, vector_both, takin
 use crate::sources::{pending, special_waits};
 use crate::{Taking, control_read};
 use channel::{Answered, Channel};
-use interrupts::{Six, Sources, acknowledge, may_take};
+use interrupts::{Six, Source, Sources, acknowledge, may_take};
 use settings::{command_in, status_affects};
 use vector::{Acked, Special, vector};
 
@@ -26,7 +26,7 @@ pub fn pending_in_both(a: Channel, b: Channel) -> Six
 fn commands(c: Channel, v: u8, k: u8) -> bool
     ensures { result ≡ commands c v k }
 {
-    (c.pointer == 0) & (command_in(v) == k)
+    c.pointer == 0 && command_in(v) == k
 }
 
 // Those in service under A's control write: WR0's command 7 ends one, and a channel reset those of A.
@@ -62,14 +62,14 @@ pub fn special_in_both(a: Channel, b: Channel) -> Special
     }
 }
 
-// The vector of the source of a level.
-fn vector_at(a: Channel, b: Channel, level: u8) -> u8
-    ensures { result ≡ vector_at a b level }
+// The vector of a source, or of none.
+fn vector_at(a: Channel, b: Channel, source: Option<Source>) -> u8
+    ensures { result ≡ vector_at a b source }
 {
     vector(
         b.registers.wr2,
         status_affects(b.registers.wr1),
-        level,
+        source,
         special_in_both(a, b),
     )
 }
@@ -95,6 +95,7 @@ pub fn control_read_b(a: Channel, b: Channel) -> Answered
 }
 
 // Acknowledge, with these in service.
+#[tactic(auto, unfolding(interrupts::specs::Interrupts::acknowledged))]
 pub fn acknowledging(a: Channel, b: Channel, s: Six) -> Taking
     ensures { result ≡ taking (pending_both a b) s (vector_both a b) }
 {

@@ -26,6 +26,7 @@ pub struct Taking {
 }
 
 // RR0; whether any source is pending is the chip's to say.
+#[tactic(auto, unfolding(channel::specs::Control::rr0))]
 pub fn rr0(c: Channel, pending: bool) -> u8
     ensures { result ≡ rr0 c pending }
 {
@@ -43,6 +44,7 @@ pub fn rr0(c: Channel, pending: bool) -> u8
 }
 
 // RR1.
+#[tactic(auto, unfolding(channel::specs::Control::rr1_now))]
 pub fn rr1(c: Channel) -> u8
     ensures { result ≡ rr1_now c }
 {
@@ -54,11 +56,11 @@ pub fn rr1(c: Channel) -> u8
 }
 
 // The register that the pointer names; pending and vector are the chip's to say.
+#[tactic(auto, unfolding(channel::specs::Control::read_register))]
 fn read_register(c: Channel, pending: bool, vector: u8) -> u8
     ensures { result ≡ read_register c pending vector }
 {
-    let p = c.pointer;
-    match p {
+    match c.pointer {
         0 => rr0(c, pending),
         1 => rr1(c),
         2 => vector,

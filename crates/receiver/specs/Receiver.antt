@@ -1,14 +1,13 @@
 -- 01, Receiving: one channel's receiver: what all modes share, which mode hears, off, and what the
 -- other events do to it. Every receiver is accepted, also one that no history made. Assumes
 -- nothing.
-use Rattle.std.specs.Prelude.{Bool, true, false, ◌&&◌, ◌||◌, ℕ, if◌then◌else◌}
+use Rattle.std.specs.Prelude.{Option, None, Bool, true, false, ◌&&◌, ◌||◌, ℕ, if◌then◌else◌}
 use Rattle.std.specs.Bool.{beq}
 use Rattle.common.specs.Mode.{in_sdlc, in_blocks}
 use Rattle.common.specs.declared.Mode.{Mode}
 use Rattle.common.specs.declared.Mode.TheVariants.{NoMode, Asynchronous, Monosync, Bisync, Sdlc}
 use Rattle.line.specs.Check.{ones}
 use Rattle.shared.specs.Preset.{preset_for}
-use Rattle.entry.specs.Entry.{no_entry}
 use Rattle.entry.specs.declared.Entry.{Entry}
 use Rattle.asynchronous.specs.declared.Assembly.{Assembly}
 use Rattle.asynchronous.specs.declared.Assembled.{Assembled}
@@ -42,24 +41,22 @@ abbrev pub reception_in : Receiver → Reception → Receiver
 reception_in s r = receiver s.content s.assembly r s.check s.broken
 
 -- what a tick gives: the receiver, and an entry for the queue or none
-abbrev pub heard : Receiver → Bool → Entry → Heard
-heard s t e = record { receiver = s; some = t; entry = e }
+abbrev pub heard : Receiver → Option Entry → Heard
+heard s e = record { receiver = s; entry = e }
 
 abbrev pub silent : Receiver → Heard
-silent s = heard s false no_entry
+silent s = heard s None
 
 abbrev pub by_listener : Receiver → Listened → Heard
-by_listener s h = heard (listener_in s h.listener) h.some h.entry
+by_listener s h = heard (listener_in s h.listener) h.entry
 
 abbrev pub by_assembly : Receiver → Assembled → Heard
 by_assembly s h =
-    heard (receiver s.content h.assembly s.reception s.check h.broken)
-    h.some h.entry
+    heard (receiver s.content h.assembly s.reception s.check h.broken) h.entry
 
 abbrev pub by_matched : Receiver → Matched → Heard
 by_matched s h =
-    heard (receiver s.content s.assembly h.reception h.check s.broken)
-    h.some h.entry
+    heard (receiver s.content s.assembly h.reception h.check s.broken) h.entry
 
 -- Other events
 

@@ -35,12 +35,11 @@ pub struct Receiver {
     pub broken: bool,
 }
 
-// What a tick gives: the receiver, and an entry for the queue, if some.
+// What a tick gives: the receiver, and what goes into the queue.
 #[derive(Clone, Copy)]
 pub struct Heard {
     pub receiver: Receiver,
-    pub some: bool,
-    pub entry: Entry,
+    pub entry: Option<Entry>,
 }
 
 impl Receiver {
@@ -61,9 +60,8 @@ impl Receiver {
     pub fn listener(self) -> Listener
         ensures { result ≡ listener_of self }
     {
-        let content = self.content;
         Listener {
-            content,
+            content: self.content,
             check: self.check,
             broken: self.broken,
         }
@@ -73,62 +71,56 @@ impl Receiver {
     pub fn with_listener(self, l: Listener) -> Receiver
         ensures { result ≡ listener_in self l }
     {
-        let content = l.content;
-        let mut s = self;
-        s.content = content;
-        s.check = l.check;
-        s.broken = l.broken;
-        s
+        Receiver {
+            content: l.content,
+            check: l.check,
+            broken: l.broken,
+            ..self
+        }
     }
 
     // What Monosync and Bisync have heard, put back.
     pub fn with_reception(self, reception: Reception) -> Receiver
         ensures { result ≡ reception_in self reception }
     {
-        let mut s = self;
-        s.reception = reception;
-        s
+        Receiver { reception, ..self }
     }
 
     // What the modes' ticks give, with the receiver put together again.
     fn by_listener(self, h: Listened) -> Heard
         ensures { result ≡ by_listener self h }
     {
-        let entry = h.entry;
         Heard {
             receiver: self.with_listener(h.listener),
-            some: h.some,
-            entry,
+            entry: h.entry,
         }
     }
 
     fn by_assembly(self, h: Assembled) -> Heard
         ensures { result ≡ by_assembly self h }
     {
-        let assembly = h.assembly;
-        let entry = h.entry;
-        let mut s = self;
-        s.assembly = assembly;
-        s.broken = h.broken;
+        let receiver = Receiver {
+            assembly: h.assembly,
+            broken: h.broken,
+            ..self
+        };
         Heard {
-            receiver: s,
-            some: h.some,
-            entry,
+            receiver,
+            entry: h.entry,
         }
     }
 
     fn by_matched(self, h: Matched) -> Heard
         ensures { result ≡ by_matched self h }
     {
-        let reception = h.reception;
-        let entry = h.entry;
-        let mut s = self;
-        s.reception = reception;
-        s.check = h.check;
+        let receiver = Receiver {
+            reception: h.reception,
+            check: h.check,
+            ..self
+        };
         Heard {
-            receiver: s,
-            some: h.some,
-            entry,
+            receiver,
+            entry: h.entry,
         }
     }
 
@@ -171,8 +163,7 @@ impl Receiver {
     pub fn hunting(self, g: Receiving) -> bool
         ensures { result ≡ hunting g self }
     {
-        let mode = g.mode;
-        (in_sdlc(mode) & self.content.hunt) | (in_blocks(mode) & self.reception.hunt)
+        (in_sdlc(g.mode) & self.content.hunt) | (in_blocks(g.mode) & self.reception.hunt)
     }
 
     // Hunt in every mode and D7 are as in that one: RR0 shows no difference.
@@ -190,8 +181,7 @@ impl Receiver {
     {
         Heard {
             receiver: self,
-            some: false,
-            entry: Entry::none(),
+            entry: None,
         }
     }
 
@@ -209,9 +199,8 @@ impl Receiver {
     fn hear_block(self, g: Receiving, bit: bool) -> Heard
         ensures { result ≡ hear_in_blocks g self bit }
     {
-        let y = g.matching;
         if g.on {
-            return self.by_matched(y.hear(self.reception, self.check, bit));
+            return self.by_matched(g.matching.hear(self.reception, self.check, bit));
         }
         self.dropped(true, false).silent()
     }
@@ -227,19 +216,14 @@ impl Receiver {
     }
 
     // A receive tick.
+    #[tactic(auto, unfolding(crate::specs::Receiver::hear))]
     pub fn hear(self, g: Receiving, bit: bool) -> Heard
         ensures { result ≡ hear g self bit }
     {
-        let mode = g.mode;
-        // one call for both modes, so that it is no call in the end
-        if in_blocks(mode) {
-            return self.hear_block(g, bit);
-        }
-        match mode {
+        match g.mode {
             Mode::NoMode => self.silent(),
             Mode::Asynchronous => self.hear_character(g, bit),
-            Mode::Monosync => self.silent(),
-            Mode::Bisync => self.silent(),
+            Mode::Monosync | Mode::Bisync => self.hear_block(g, bit),
             Mode::Sdlc => self.hear_frame(g, bit),
         }
     }

@@ -5,6 +5,7 @@ use Rattle.std.proofs.Common.{sym, ap, ◌∙◌, subst, append_assoc, append-ni
 use Rattle.common.specs.declared.Mode.{Mode}
 use Rattle.common.specs.declared.Mode.TheVariants.{Sdlc}
 use Rattle.common.specs.Mode.{in_blocks, synchronous}
+use Rattle.shared.specs.Shared.{full}
 use Rattle.entry.specs.declared.Entry.{Entry}
 use Rattle.queue.specs.declared.Queue.{Queue}
 use Rattle.entry.specs.Entry.{plain_entry, rr1_of}
@@ -278,7 +279,7 @@ rr1_in : (c : Channel) (pending : Bool) (vector : ℕ) → c.pointer ≡ 1
     → read_register c pending vector ≡ rr1 c.queue true
 unfolding read_register rr1_now receiving_of sending_of
 rr1_in c pending vector p d =
-    let idle = not (under_way c.sender.character) && not c.sender.shared.full in
+    let idle = not (under_way c.sender.character) && not (full c.sender.shared) in
     rw p (ap (λ (k : Mode). if in_blocks k then rr1_told c.queue (synchronous k || idle)
     (wrong c.receiver.check)
     else rr1 c.queue (synchronous k || idle)) d)

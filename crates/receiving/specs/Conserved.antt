@@ -12,6 +12,7 @@ use Rattle.sdlc.specs.Hearing.{hear_sdlc}
 use Rattle.sdlc.specs.Laws.Plain.{hear_plain}
 use Rattle.whole.specs.Heard.{handed, before, hear_all}
 use Rattle.whole.specs.Laws.Heard.{before_join}
+use Rattle.channel.specs.Events.{queued}
 use Rattle.chip.specs.declared.Chip.{Chip}
 use Rattle.chip.specs.Event.{Event}
 use Rattle.stories.specs.Story.{Which, chan, happens, after}
@@ -19,7 +20,7 @@ use Rattle.stories.specs.Received.{ToReceiver, bit_in, bits_of, is_read, taking,
 use Rattle.history.specs.Receiving.Side.{Heeded, Side, side, side_of}
 use Rattle.history.specs.Receiving.Stories.{over, hears, reads, still}
 use Rattle.receiving.specs.Statement.{roomy, Fed}
-use Rattle.history.specs.Receiving.Events.{queued_if, room_if, queue_takes, heard_side, read_side}
+use Rattle.history.specs.Receiving.Events.{room_if, queue_takes, heard_side, read_side}
 use Rattle.history.specs.Receiving.Events.{Follows, Hearing, follows}
 
 -- at the end of a story: the side, and, whatever bits follow, the whole of what is handed over
@@ -94,11 +95,11 @@ conserved w (hears {c = c} {e = x} {st = st} {b = b} r k i) s q g es d e h =
     let f : side_of w (happens c x).chip ≡ heard_side b (side_of w c) =
     subst (Follows w c (happens c x).chip) r
     (follows w c x (subst Hearing (sym (ap (λ (y : Side). y.settings) e)) d)) in
-    let space : room_if H.some q ≡ true = ap (λ (y : Side). roomy y b) (sym e) ∙ k in
+    let space : room_if H.entry q ≡ true = ap (λ (y : Side). roomy y b) (sym e) ∙ k in
     let m =
-    conserved w i H.listener (queued_if H.some q H.entry) g (es ++ handed H) d
+    conserved w i H.listener (queued q H.entry) g (es ++ handed H) d
     (f ∙ ap (heard_side b) e)
-    (queue_takes H.some H.entry h space (hear_plain g.addressing s b)) in
+    (queue_takes H.entry h space (hear_plain g.addressing s b)) in
     carried m λ rest.
     ap (λ (r : ToReceiver). before es
     (hear_all g.addressing s ((bit_in r ++ bits_of w st) ++ rest))) r

@@ -37,7 +37,7 @@ pub record Listening (x : Side) : Type 0 where
 -- was
 
 abbrev pub roomy : Side → Bool → Bool
-roomy x b = room_if (hear_sdlc x.settings.addressing x.listener b).some x.queue
+roomy x b = room_if (hear_sdlc x.settings.addressing x.listener b).entry x.queue
 
 abbrev pub Fed : Which → Chip → List Event → Type 0
 Fed w c st = HearsWhere (side_of w) (λ d b. roomy (side_of w d) b ≡ true) w c st

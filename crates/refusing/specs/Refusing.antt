@@ -3,15 +3,15 @@
 -- line and for a list. A call is refused with the number of the first row that holds in the order
 -- that the paper gives, and with none if none does. That every call accepts every input and ends is
 -- each function's own proof: no public function has a `requires`. Assumes nothing.
-use Rattle.std.specs.Prelude.{◌≡◌, refl, ◌≢◌, not, ◌||◌, List, [], ◌∷◌, ℕ, ◌-◌, eqb, ltb, leb, length, get_or, if◌then◌else◌}
+use Rattle.std.specs.Prelude.{◌≡◌, refl, ◌≢◌, not, ◌||◌, List, [], ◌∷◌, ℕ, ◌-◌, Result, Ok, Err, eqb, ltb, leb, length, get_or, if◌then◌else◌}
 use Rattle.common.specs.Tools.{bool_or}
-use Rattle.zeros.specs.declared.Counted.{Counted}
+use Rattle.common.specs.declared.Refusal.{Refusal}
+use Rattle.common.specs.Refusal.{number_in}
 use Rattle.line.specs.Frame.{frame, ticks_of}
 use Rattle.line.specs.Line.{note_fits}
-use Rattle.zeros.specs.Counted.{counted_number}
 use Rattle.zeros.specs.Zeros.{count_of}
 use Rattle.writer.specs.Writer.{write_of, buffer_after}
-use Rattle.head.specs.Number.{head_number}
+use Rattle.common.specs.Refusal.{number_in}
 use Rattle.head.specs.NoteHead.{length_bytes, length_at, head_of}
 use Rattle.notes.specs.NoteList.{rest_from, first_note, version, longest_list}
 use Rattle.notes.specs.NoteList.{read_list, reading_number}
@@ -21,7 +21,6 @@ use Rattle.promises.specs.Refusals.{Row, rows_of, first_row}
 use Rattle.promises.specs.Laws.Refusals.{refused_by_the_table, refused_changes_nothing}
 use Rattle.channel.specs.Answer.{answer_number}
 use Rattle.stories.specs.Story.{happens}
-use Rattle.zeros.specs.declared.Counted.TheVariants as counted
 
 -- The chip's calls: rows 1, 2, 3, and 4 for acknowledge; which rows an event knows is `rows_of`
 
@@ -45,7 +44,7 @@ abbrev pub room_short : List ℕ → List ℕ → ℕ → Row
 room_short note buffer at = (8, ltb (length buffer - at) (ticks_of note))
 
 pub line_refused : (note buffer : List ℕ) (at : ℕ)
-    → counted_number (write_of note buffer at)
+    → number_in (write_of note buffer at)
     ≡ first_row (length_bad (length note) ∷ room_short note buffer at ∷ [])
 unfolding write_of
 line_refused note buffer at =
@@ -53,16 +52,16 @@ line_refused note buffer at =
     (λ f. bool_or (ltb (length buffer - at) (ticks_of note)) (λ r. rw (f, r)) (λ r. rw (f, r)))
     (λ f. rw f)
 
-pub line_kept : (note buffer : List ℕ) (at : ℕ) → counted_number (write_of note buffer at) ≢ 0
+pub line_kept : (note buffer : List ℕ) (at : ℕ) → number_in (write_of note buffer at) ≢ 0
     → buffer_after (write_of note buffer at) (frame note) buffer at ≡ buffer
 line_kept note buffer at = go (write_of note buffer at)
   where
-    go : (w : Counted) → counted_number w ≢ 0 → buffer_after w (frame note) buffer at ≡ buffer
-    go (counted.Zeros z) n = absurd (n refl)
-    go (counted.Refused k) n = refl
+    go : (w : Result ℕ Refusal) → number_in w ≢ 0 → buffer_after w (frame note) buffer at ≡ buffer
+    go (Ok z) n = absurd (n refl)
+    go (Err k) n = refl
 
 pub zeros_refused : (note : List ℕ)
-    → counted_number (count_of note) ≡ first_row (length_bad (length note) ∷ [])
+    → number_in (count_of note) ≡ first_row (length_bad (length note) ∷ [])
 unfolding count_of
 zeros_refused note = bool_or (note_fits (length note)) (λ f. rw f) (λ f. rw f)
 
@@ -85,7 +84,7 @@ abbrev pub note_cut : List ℕ → ℕ → Row
 note_cut list i = (7, ltb (length list - i - length_bytes) (length_at list i))
 
 pub note_refused : (list : List ℕ) (i : ℕ)
-    → head_number (head_of list i)
+    → number_in (head_of list i)
     ≡ (if leb (length list) i then 0 else first_row
     (length_cut list i ∷ length_bad (length_at list i) ∷ note_cut list i ∷ []))
 unfolding head_of

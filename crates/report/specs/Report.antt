@@ -1,13 +1,11 @@
 -- 01, Note list and line: what sending a list tells, note by note and in all. Assumes nothing.
-use Rattle.std.specs.Prelude.{Bool, List, [], ◌∷◌, ◌++◌, ℕ, ◌+◌, ◌/◌, leb, length, if◌then◌else◌}
+use Rattle.std.specs.Prelude.{Result, Ok, Err, Bool, List, [], ◌∷◌, ◌++◌, ℕ, ◌+◌, ◌/◌, leb, length, if◌then◌else◌}
 use Rattle.std.proofs.lemmas.List.Edits.{sets}
 use Rattle.common.specs.declared.Refusal.{Refusal}
 use Rattle.line.specs.Frame.{zeros_of, ticks_of}
 use Rattle.flags.specs.declared.Between.{Between}
 use Rattle.flags.specs.Flags.{total_ticks}
 use Rattle.notes.specs.NoteList.{Reading, whole, refuses, read_list}
-use Rattle.report.specs.declared.Pages.{Pages}
-use Rattle.report.specs.declared.Pages.TheVariants as pages
 
 -- A note
 
@@ -53,6 +51,6 @@ rows_in lent (report rows notes ticks) = told_at (has_room notes lent) lent 0 ro
 rows_in lent (refusal k) = lent
 
 -- the page timer's answer: the ticks in all
-abbrev pub pages_of : Report → Pages
-pages_of (report rows notes ticks) = pages.Ticks ticks
-pages_of (refusal k) = pages.Refused k
+abbrev pub pages_of : Report → Result ℕ Refusal
+pages_of (report rows notes ticks) = Ok ticks
+pages_of (refusal k) = Err k

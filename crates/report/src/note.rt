@@ -2,15 +2,14 @@
 ghost use Rattle.std.specs.Prelude.{◌≡◌};
 ghost use Rattle.zeros.specs.Zeros.{line_ticks};
 
-use zeros::{Counted, zeros_of};
+use zeros::zeros_of;
 
 // A note's ticks, with both flags; 0 of one that has no frame.
 pub(crate) fn note_ticks(note: &[u8]) -> usize
     ensures { result ≡ line_ticks note.now }
 {
-    let z = zeros_of(note);
-    match z {
-        Counted::Zeros(zeros) => 8 * (note.len() + 2) + 16 + zeros,
-        Counted::Refused(_) => 0,
+    match zeros_of(note) {
+        Ok(zeros) => 8 * (note.len() + 2) + 16 + zeros,
+        Err(_) => 0,
     }
 }

@@ -1,11 +1,10 @@
-// The events of 01 by their codes, and what a host sees of one: its refusal, the value that it gave, and the registers behind it.
+// The events of 01 as values, each by its code too, and what a host sees of one: its refusal, the value that it gave, and the registers behind it.
 // Assumes nothing.
 #![tactic(auto)]
 
 ghost use Rattle.std.specs.Prelude.{◌≡◌};
-ghost use Rattle.chip.specs.Interrupts.{acknowledge};
-ghost use Rattle.chip.specs.Event.{acked_answer};
-ghost use Rattle.script.specs.Step.{acknowledged, plain, unnamed, at_pins, named, step};
+ghost use Rattle.chip.specs.Event.{acked_answer, step};
+ghost use Rattle.script.specs.Step.{event_of, said};
 ghost use Rattle.script.specs.Shown.{register_of, shown};
 
 use channel::Answer;
@@ -13,24 +12,45 @@ use chip::{Chip, Outcome};
 use common::Refusal;
 use vector::Acked;
 
-// The codes of the events.
-const RESET: u8 = 0;
+// 01, Events: an event with what it is given.
+#[derive(Clone, Copy)]
+pub enum Event {
+    HardReset,
+    ControlWrite { channel: u8, value: u8 },
+    ControlRead { channel: u8 },
+    DataWrite { channel: u8, value: u8 },
+    DataRead { channel: u8 },
+    Transmit { channel: u8 },
+    Receive { channel: u8, bit: u8 },
+    SetLines { channel: u8, dcd: u8, cts: u8 },
+    Acknowledge,
+    Reti,
+}
 
-const CONTROL_WRITE: u8 = 1;
-
-const CONTROL_READ: u8 = 2;
-
-const DATA_WRITE: u8 = 3;
-
-const DATA_READ: u8 = 4;
-
-const TRANSMIT: u8 = 5;
-
-const RECEIVE: u8 = 6;
-
-const SET_LINES: u8 = 7;
-
-const ACKNOWLEDGE: u8 = 8;
+impl Event {
+    // The event of a code, given the first of three arguments; any code above 9 is taken as the last, RETI's.
+    pub fn of(code: u8, x: u8, y: u8, z: u8) -> Event
+        ensures { result ≡ event_of code x y z }
+    {
+        let channel = x;
+        match code {
+            0 => Event::HardReset,
+            1 => Event::ControlWrite { channel, value: y },
+            2 => Event::ControlRead { channel },
+            3 => Event::DataWrite { channel, value: y },
+            4 => Event::DataRead { channel },
+            5 => Event::Transmit { channel },
+            6 => Event::Receive { channel, bit: y },
+            7 => Event::SetLines {
+                channel,
+                dcd: y,
+                cts: z,
+            },
+            8 => Event::Acknowledge,
+            _ => Event::Reti,
+        }
+    }
+}
 
 // An acknowledge's answer among those of the other calls.
 fn answer_of(w: Acked) -> Answer
@@ -42,120 +62,58 @@ fn answer_of(w: Acked) -> Answer
     }
 }
 
-fn acknowledged(mut c: Chip) -> Outcome
-    ensures { result ≡ acknowledged (acknowledge c) }
+// One event.
+pub fn step(c: Chip, e: Event) -> Outcome
+    ensures { result ≡ step c (said e) }
 {
-    let o = c.acknowledge();
-    let w = o.acked;
-    c = o.chip;
-    Outcome {
-        answer: answer_of(w),
-        chip: c,
+    match e {
+        Event::HardReset => Outcome {
+            answer: Answer::Done,
+            chip: Chip::reset(),
+        },
+        Event::ControlWrite { channel, value } => c.control_write(channel, value),
+        Event::ControlRead { channel } => c.control_read(channel),
+        Event::DataWrite { channel, value } => c.data_write(channel, value),
+        Event::DataRead { channel } => c.data_read(channel),
+        Event::Transmit { channel } => c.transmit(channel),
+        Event::Receive { channel, bit } => c.receive(channel, bit),
+        Event::SetLines { channel, dcd, cts } => c.set_lines(channel, dcd, cts),
+        Event::Acknowledge => {
+            let o = c.acknowledge();
+            Outcome {
+                answer: answer_of(o.acked),
+                chip: o.chip,
+            }
+        }
+        Event::Reti => Outcome {
+            answer: Answer::Done,
+            chip: c.reti(),
+        },
     }
-}
-
-// An event that is never refused and gives nothing.
-fn plain(c: Chip) -> Outcome
-    ensures { result ≡ plain c }
-{
-    Outcome {
-        answer: Answer::Done,
-        chip: c,
-    }
-}
-
-// The events that name no channel; any other code is taken as the last of them, RETI.
-fn unnamed(mut c: Chip, code: u8) -> Outcome
-    ensures { result ≡ unnamed c code }
-{
-    match code {
-        RESET => {
-            c = Chip::reset();
-            return plain(c);
-        }
-        ACKNOWLEDGE => {
-            return acknowledged(c);
-        }
-        _ => {
-            c = c.reti();
-            return plain(c);
-        }
-    }
-}
-
-// The events at the pins of a channel; any other code is taken as the last of them, set DCD and CTS.
-fn at_pins(c: Chip, code: u8, x: u8, y: u8, z: u8) -> Outcome
-    ensures { result ≡ at_pins c code x y z }
-{
-    match code {
-        TRANSMIT => {
-            return c.transmit(x);
-        }
-        RECEIVE => {
-            return c.receive(x, y);
-        }
-        _ => {
-            return c.set_lines(x, y, z);
-        }
-    }
-}
-
-// The events that name a channel.
-fn named(c: Chip, code: u8, x: u8, y: u8, z: u8) -> Outcome
-    ensures { result ≡ named c code x y z }
-{
-    match code {
-        CONTROL_WRITE => {
-            return c.control_write(x, y);
-        }
-        CONTROL_READ => {
-            return c.control_read(x);
-        }
-        DATA_WRITE => {
-            return c.data_write(x, y);
-        }
-        DATA_READ => {
-            return c.data_read(x);
-        }
-        _ => {
-            return at_pins(c, code, x, y, z);
-        }
-    }
-}
-
-// One event by its code, with three arguments; any other code is taken as the last, RETI.
-pub fn step(c: Chip, code: u8, x: u8, y: u8, z: u8) -> Outcome
-    ensures { result ≡ step c code x y z }
-{
-    if (CONTROL_WRITE <= code) & (code <= SET_LINES) {
-        return named(c, code, x, y, z);
-    }
-    unnamed(c, code)
 }
 
 // What a host reads in register n of a channel, at which a write behind a control read points; its reading is not kept.
+#[tactic(auto, unfolding(crate::specs::Shown::pointed_at, crate::specs::Shown::register_of))]
 pub fn register(c: Chip, channel: u8, n: u8) -> u8
     ensures { result ≡ register_of c channel n }
 {
     let mut o = c.control_read(channel);
     o = o.chip.control_write(channel, n);
     o = o.chip.control_read(channel);
-    let w = o.answer;
-    w.value()
+    o.answer.value()
 }
 
-// An event's numbers, from 0 on: its refusal, its value, and RR0 and RR1 of A, RR0, RR1 and RR2 of B behind it.
-pub fn shown(o: Outcome, k: u8) -> u8
-    ensures { result ≡ shown o k }
+// An event's numbers: its refusal, its value, and RR0 and RR1 of A, RR0, RR1 and RR2 of B behind it.
+pub fn shown(o: Outcome) -> [u8; 7]
+    ensures { result ≡ shown o }
 {
-    let w = o.answer;
-    match k {
-        0 => w.number(),
-        1 => w.value(),
-        2 => register(o.chip, 0, 0),
-        3 => register(o.chip, 0, 1),
-        4 => register(o.chip, 1, 0),
-        5 => register(o.chip, 1, 1),
-        _ => register(o.chip, 1, 2),
-    }
+    [
+        o.answer.number(),
+        o.answer.value(),
+        register(o.chip, 0, 0),
+        register(o.chip, 0, 1),
+        register(o.chip, 1, 0),
+        register(o.chip, 1, 1),
+        register(o.chip, 1, 2),
+    ]
 }

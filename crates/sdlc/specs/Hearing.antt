@@ -1,9 +1,8 @@
 -- 01, Receiving: the paragraph on SDLC, a bit at a time. Every receiver is accepted, also one that
 -- no history made. Assumes nothing.
-use Rattle.std.specs.Prelude.{Bool, true, false, not, ◌&&◌, ◌||◌, ℕ, ◌+◌, ◌*◌, ◌/◌, ◌%◌, eqb, ltb, if◌then◌else◌}
+use Rattle.std.specs.Prelude.{Option, Some, None, is_none, option_map, Bool, true, false, not, ◌&&◌, ◌||◌, ℕ, ◌+◌, ◌*◌, ◌/◌, ◌%◌, eqb, ltb, if◌then◌else◌}
 use Rattle.line.specs.Bits.{odd, one_if}
 use Rattle.line.specs.Check.{sdlc, ones, check_step, remainder}
-use Rattle.entry.specs.Entry.{no_entry}
 use Rattle.entry.specs.Entry.{plain_entry}
 use Rattle.entry.specs.declared.Entry.{Entry}
 use Rattle.sdlc.specs.declared.Addressing.{Addressing}
@@ -14,13 +13,13 @@ use Rattle.sdlc.specs.declared.Listened.{Listened}
 
 -- The parts of a receiver
 
--- behind the delay: n bits of a character in p; a whole one v is held, if h
-abbrev pub chars : ℕ → ℕ → Bool → ℕ → Chars
-chars n p h v = record { count = n; part = p; have = h; held = v }
+-- behind the delay: n bits of a character in p; a whole one is held, or none
+abbrev pub chars : ℕ → ℕ → Option ℕ → Chars
+chars n p h = record { count = n; part = p; held = h }
 
 -- no bit of a character and none held
 abbrev pub no_chars : Chars
-no_chars = chars 0 0 false 0
+no_chars = chars 0 0 None
 
 -- the delay is a number: the bits in it, under a leading one; with seven bits it is at least this
 abbrev pub empty_delay : ℕ
@@ -53,11 +52,11 @@ with_ones s o x =
     let c = s.content in heard_so (content c.hunt c.skip o c.delay c.chars) s.check x
 
 -- what a tick gives: the receiver, and an entry for the queue or none
-abbrev pub listened : Listener → Bool → Entry → Listened
-listened s t e = record { listener = s; some = t; entry = e }
+abbrev pub listened : Listener → Option Entry → Listened
+listened s e = record { listener = s; entry = e }
 
 abbrev pub unheard : Listener → Listened
-unheard s = listened s false no_entry
+unheard s = listened s None
 
 -- Bits and characters
 
@@ -88,21 +87,24 @@ abbrev pub everyone : ℕ
 everyone = 0xFF
 
 -- "Address search, applied when the first byte has left the delay, drops a frame if that byte is
--- neither WR6 nor FF"
-abbrev pub wrong : Addressing → Bool → ℕ → Bool
-wrong g h v = g.search && (not h && (not (eqb v g.address) && not (eqb v everyone)))
+-- neither WR6 nor FF": it is the first if none is held
+abbrev pub wrong : Addressing → Option ℕ → ℕ → Bool
+wrong g h v = g.search && (is_none h && (not (eqb v g.address) && not (eqb v everyone)))
 
--- a bit leaves the delay behind the characters c: "A character is queued when the next has left the
--- delay". The check is k; o ones in a row, D7 and the delay are then these
+-- "A character is queued when the next has left the delay": the one held, if one is; it has no mark
+abbrev pub unmarked : Option ℕ → Option Entry
+unmarked h = option_map (λ v. plain_entry v false false) h
+
+-- a bit leaves the delay behind the characters c. The check is k; o ones in a row, D7 and the delay
+-- are then these
 unfoldable pub accept : Addressing → Chars → ℕ → ℕ → Bool → ℕ → Bool → Listened
 accept g c k o x d b =
     let v = shift_in b c.part in
     let n = check_step sdlc k b in
     if ltb c.count last_bit
-    then unheard (listener o d (chars (c.count + 1) v c.have c.held) n x)
-    else (if wrong g c.have v then unheard (dropping o n x)
-    else listened (listener o d (chars 0 0 true v) n x) c.have
-    (plain_entry c.held false false))
+    then unheard (listener o d (chars (c.count + 1) v c.held) n x)
+    else (if wrong g c.held v then unheard (dropping o n x)
+    else listened (listener o d (chars 0 0 (Some v)) n x) (unmarked c.held))
 
 -- a bit of content: "through a seven-bit delay so that flag bits never enter". o ones in a row
 -- stand behind it; D7 is x
@@ -119,8 +121,9 @@ deaf c = c.hunt || c.skip
 
 -- "or at the flag with the end mark. Its check is good when content is whole bytes and the
 -- remainder from ones is 1D0F hex"
-abbrev pub closing : Chars → ℕ → Entry
-closing c k = plain_entry c.held true (not (eqb c.count 0 && eqb k remainder))
+abbrev pub closing : Chars → ℕ → Option Entry
+closing c k =
+    option_map (λ v. plain_entry v true (not (eqb c.count 0 && eqb k remainder))) c.held
 
 -- what every flag leaves: "a flag ends hunt", "Each flag presets this check"
 abbrev pub past_flag : Listener
@@ -144,7 +147,7 @@ unfoldable pub zero_bit : Addressing → Listener → Listened
 zero_bit g s =
     let c = s.content in
     if eqb c.ones 6
-    then listened past_flag (not (deaf c) && c.chars.have) (closing c.chars s.check)
+    then listened past_flag (if deaf c then None else closing c.chars s.check)
     else (if deaf c then unheard (with_ones s 0 false)
     else (if eqb c.ones 5 then unheard (with_ones s 0 false)
     else push g s 0 false false))

@@ -6,7 +6,7 @@ use Rattle.line.specs.Bits.{odd}
 use Rattle.line.specs.Check.{sdlc, top, shifted, complement}
 use Rattle.line.specs.Insertion.{counted}
 use Rattle.line.specs.declared.Insertion.{Insertion}
-use Rattle.shared.specs.Shared.{emptied, latched, entered}
+use Rattle.shared.specs.Shared.{full, waiting_byte, emptied, latched, entered}
 use Rattle.shared.specs.declared.Shared.{Shared}
 use Rattle.sdlc.specs.declared.LineUnit.{LineUnit}
 use Rattle.sdlc.specs.declared.LineUnit.TheVariants.{Mark, Flag, Byte, Check, Abort}
@@ -48,12 +48,11 @@ start_mark k = sent_bit true Mark not_counted k
 abbrev pub start_flag : Shared → Framed
 start_flag k = sent_bit false (Flag 7) not_counted k
 
--- "byte (low bit first)"; "A byte enters the check at its load if WR5 D0 is set."
-abbrev pub start_byte : Framing → ℕ → Shared → Framed
-start_byte g run k =
-    let v = k.buffer in
+-- "byte (low bit first)"; "A byte enters the check at its load if WR5 D0 is set.": v, which waited
+abbrev pub start_byte : Framing → ℕ → ℕ → Shared → Framed
+start_byte g run v k =
     let i = counted run (odd v) in
-    framed (odd v) true (framer (Byte 7 (v / 2)) i (emptied (entered sdlc g.included k)))
+    framed (odd v) true (framer (Byte 7 (v / 2)) i (emptied (entered sdlc g.included v k)))
 
 -- "The check: .. complemented, x^15 first (ISO/IEC 13239), taken at its first bit. Sending it
 -- leaves the generator alone."
@@ -62,17 +61,20 @@ start_check run k =
     let c = complement k.check in
     sent_bit (top c) (Check 15 (shifted c)) (counted run (top c)) k
 
+-- "else, if the latch is clear and WR5 D0 set, check, otherwise flag; either sets the latch."
+abbrev pub underrun : Framing → ℕ → Shared → Framed
+underrun g run k =
+    if not k.latch && g.included then start_check run (latched k) else start_flag (latched k)
+
 -- "After mark or abort: flag. After flag: byte if the buffer is full, else flag. After byte: byte
 -- if full; else, if the latch is clear and WR5 D0 set, check, otherwise flag; either sets the
 -- latch. After check: flag."
 unfoldable pub following : Framing → LineUnit → ℕ → Shared → Framed
 following g Mark run k = start_flag k
 following g (Abort n) run k = start_flag k
-following g (Flag n) run k = if k.full then start_byte g run k else start_flag k
+following g (Flag n) run k = if full k then start_byte g run (waiting_byte k) k else start_flag k
 following g (Byte n v) run k =
-    if k.full then start_byte g run k
-    else (if not k.latch
-    && g.included then start_check run (latched k) else start_flag (latched k))
+    if full k then start_byte g run (waiting_byte k) k else underrun g run k
 following g (Check n v) run k = start_flag k
 
 -- "The next unit is chosen on the tick that sends its first bit, after any owed 0: if off, mark."

@@ -65,6 +65,6 @@ moved_on s b =
     let c = s.content in
     let k = c.chars in
     let out = oldest_bit c.delay in
-    let more = chars (count_after k.count) (shift_in out k.part) k.have k.held in
+    let more = chars (count_after k.count) (shift_in out k.part) k.held in
     listener (ones_after c.ones b) (spilled c.delay b) more (check_step sdlc s.check out)
     s.broken

@@ -52,13 +52,12 @@ pub struct Addressing {
     pub address: u8,
 }
 
-// Behind the delay: count bits of a character in part; a whole one held, if have.
+// Behind the delay: count bits of a character in part, and a whole one that is held.
 #[derive(Clone, Copy)]
 pub struct Chars {
     pub count: u8,
     pub part: u8,
-    pub have: bool,
-    pub held: u8,
+    pub held: Option<u8>,
 }
 
 // What lies between two flags. hunt: no flag has come yet; skip: the frame is dropped until a flag; ones in a row on the line;
@@ -80,12 +79,11 @@ pub struct Listener {
     pub broken: bool,
 }
 
-// What a receive tick gives: the receiver, and an entry for the queue, if some.
+// What a receive tick gives: the receiver, and what goes into the queue.
 #[derive(Clone, Copy)]
 pub struct Listened {
     pub listener: Listener,
-    pub some: bool,
-    pub entry: Entry,
+    pub entry: Option<Entry>,
 }
 
 // An empty delay.
@@ -106,38 +104,24 @@ impl LineUnit {
     pub fn aborting(self) -> bool
         ensures { result ≡ aborting self }
     {
-        match self {
-            LineUnit::Mark => false,
-            LineUnit::Flag(_) => false,
-            LineUnit::Byte(_, _) => false,
-            LineUnit::Check(_, _) => false,
-            LineUnit::Abort(_) => true,
-        }
+        matches!(self, LineUnit::Abort(_))
     }
 
     // A check is being sent.
     pub fn checking(self) -> bool
         ensures { result ≡ checking self }
     {
-        match self {
-            LineUnit::Mark => false,
-            LineUnit::Flag(_) => false,
-            LineUnit::Byte(_, _) => false,
-            LineUnit::Check(_, _) => true,
-            LineUnit::Abort(_) => false,
-        }
+        matches!(self, LineUnit::Check(_, _))
     }
 
     // The bits of a byte that are still to be sent; 0 in another unit.
     pub fn byte_left(self) -> u8
         ensures { result ≡ byte_left self }
     {
-        match self {
-            LineUnit::Mark => 0,
-            LineUnit::Flag(_) => 0,
-            LineUnit::Byte(n, _) => n,
-            LineUnit::Check(_, _) => 0,
-            LineUnit::Abort(_) => 0,
+        if let LineUnit::Byte(n, _) = self {
+            n
+        } else {
+            0
         }
     }
 
@@ -145,12 +129,10 @@ impl LineUnit {
     pub fn byte_rest(self) -> u8
         ensures { result ≡ byte_rest self }
     {
-        match self {
-            LineUnit::Mark => 0,
-            LineUnit::Flag(_) => 0,
-            LineUnit::Byte(_, v) => v,
-            LineUnit::Check(_, _) => 0,
-            LineUnit::Abort(_) => 0,
+        if let LineUnit::Byte(_, v) = self {
+            v
+        } else {
+            0
         }
     }
 }
@@ -168,8 +150,7 @@ impl Content {
             chars: Chars {
                 count: 0,
                 part: 0,
-                have: false,
-                held: 0,
+                held: None,
             },
         }
     }

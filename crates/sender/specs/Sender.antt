@@ -7,7 +7,7 @@ use Rattle.common.specs.declared.Mode.TheVariants.{NoMode, Asynchronous, Monosyn
 use Rattle.line.specs.declared.Insertion.{Insertion}
 use Rattle.shared.specs.declared.Shared.{Shared}
 use Rattle.shared.specs.Preset.{preset_for}
-use Rattle.shared.specs.Shared.{shared_at_reset, filled, cleared, check_set}
+use Rattle.shared.specs.Shared.{full, shared_at_reset, filled, cleared, check_set}
 use Rattle.asynchronous.specs.declared.Character.{Character}
 use Rattle.asynchronous.specs.declared.Typed.{Typed}
 use Rattle.asynchronous.specs.Sending.{no_character, under_way, tick_character}
@@ -117,10 +117,10 @@ at_reset = sender Mark not_counted no_character blocks.Mark shared_at_reset
 -- 01, Registers: RR1 "D0 all sent (1 in SDLC)", as in Monosync and Bisync; "Outside SDLC, all sent
 -- means no character under way and the buffer empty."
 abbrev pub all_sent : Sending → Sender → Bool
-all_sent g s = synchronous g.mode || (not (under_way s.character) && not s.shared.full)
+all_sent g s = synchronous g.mode || (not (under_way s.character) && not (full s.shared))
 
 -- 01, Registers: RR0 "D2 transmit buffer empty and no check being sent"
 abbrev pub buffer_ready : Sending → Sender → Bool
 buffer_ready g s =
-    not s.shared.full
+    not (full s.shared)
     && not (if in_blocks g.mode then sends_check s.block else checking s.unit)

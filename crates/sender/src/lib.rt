@@ -35,7 +35,8 @@ pub struct Sending {
     pub syncing: Syncing,
 }
 
-// What a tick gives; loaded: a byte or a character left the buffer.
+// What a tick gives; loaded: a byte or a character left the buffer. Each mode's tick has such a type of its own (`Framed`, `Typed`, `Synced`): one
+// generic type would have one name for framer, character, unit and sender, which the definitions tell apart.
 #[derive(Clone, Copy)]
 pub struct Ticked {
     pub bit: bool,
@@ -50,7 +51,6 @@ impl Ticked {
     {
         if broken {
             self.bit = false;
-            return self;
         }
         self
     }
@@ -62,11 +62,11 @@ impl Sender {
         ensures { result ≡ at_reset }
     {
         Sender {
+            shared: Shared::reset(),
+            character: Character::none(),
             unit: LineUnit::Mark,
             insertion: not_counted(),
-            character: Character::none(),
             block: BlockUnit::Mark,
-            shared: Shared::reset(),
         }
     }
 
@@ -74,13 +74,10 @@ impl Sender {
     pub fn framer(self) -> Framer
         ensures { result ≡ framer_of self }
     {
-        let unit = self.unit;
-        let insertion = self.insertion;
-        let shared = self.shared;
         Framer {
-            unit,
-            insertion,
-            shared,
+            unit: self.unit,
+            insertion: self.insertion,
+            shared: self.shared,
         }
     }
 
@@ -88,17 +85,11 @@ impl Sender {
     pub fn with_framer(self, f: Framer) -> Sender
         ensures { result ≡ framer_in self f }
     {
-        let unit = f.unit;
-        let insertion = f.insertion;
-        let character = self.character;
-        let block = self.block;
-        let shared = f.shared;
         Sender {
-            unit,
-            insertion,
-            character,
-            block,
-            shared,
+            shared: f.shared,
+            unit: f.unit,
+            insertion: f.insertion,
+            ..self
         }
     }
 
@@ -116,15 +107,24 @@ impl Sender {
     fn by_typist(self, t: Typed) -> Ticked
         ensures { result ≡ by_typist self t }
     {
-        let c = t.character;
-        let k = t.shared;
-        let mut s = self;
-        s.character = c;
-        s.shared = k;
         Ticked {
             bit: t.bit,
             loaded: t.loaded,
-            sender: s,
+            sender: Sender {
+                shared: t.shared,
+                character: t.character,
+                ..self
+            },
+        }
+    }
+
+    fn by_syncing(self, t: Synced) -> Ticked
+        ensures { result ≡ by_syncing self t }
+    {
+        Ticked {
+            bit: t.bit,
+            loaded: t.loaded,
+            sender: self.with_block(t.unit, t.shared),
         }
     }
 
@@ -132,27 +132,10 @@ impl Sender {
     pub fn with_block(self, block: BlockUnit, shared: Shared) -> Sender
         ensures { result ≡ block_in self block shared }
     {
-        let unit = self.unit;
-        let insertion = self.insertion;
-        let character = self.character;
         Sender {
-            unit,
-            insertion,
-            character,
-            block,
             shared,
-        }
-    }
-
-    fn by_syncing(self, t: Synced) -> Ticked
-        ensures { result ≡ by_syncing self t }
-    {
-        let u = t.unit;
-        let k = t.shared;
-        Ticked {
-            bit: t.bit,
-            loaded: t.loaded,
-            sender: self.with_block(u, k),
+            block,
+            ..self
         }
     }
 
@@ -160,10 +143,8 @@ impl Sender {
     fn tick_block(self, g: Sending) -> Ticked
         ensures { result ≡ tick_in_blocks g self }
     {
-        let u = self.block;
-        let k = self.shared;
-        let y = g.syncing;
-        self.by_syncing(y.tick(u, k)).with_break(g.broken)
+        self.by_syncing(g.syncing.tick(self.block, self.shared))
+            .with_break(g.broken)
     }
 
     // One transmit tick of SDLC.
@@ -186,31 +167,25 @@ impl Sender {
     }
 
     // One transmit tick.
+    #[tactic(auto, unfolding(crate::specs::Sender::tick))]
     pub fn tick(self, g: Sending) -> Ticked
         ensures { result ≡ tick g self }
     {
-        let mode = g.mode;
-        // one call for both modes, so that it is no call in the end
-        if in_blocks(mode) {
-            return self.tick_block(g);
-        }
-        match mode {
+        match g.mode {
             Mode::NoMode => self.unticked(),
             Mode::Asynchronous => self
                 .by_typist(g.typing.tick(self.character, self.shared))
                 .with_break(g.broken),
-            Mode::Monosync => self.unticked(),
-            Mode::Bisync => self.unticked(),
+            Mode::Monosync | Mode::Bisync => self.tick_block(g),
             Mode::Sdlc => self.tick_framed(g.framing, g.broken),
         }
     }
 
-    // Another buffer, latch or check; the other parts one by one, which takes a data write less stack than the sender as a whole.
-    fn with_shared(self, k: Shared) -> Sender
-        ensures { result ≡ with_shared self k }
+    // Another buffer, latch or check.
+    fn with_shared(self, shared: Shared) -> Sender
+        ensures { result ≡ with_shared self shared }
     {
-        let block = self.block;
-        self.with_block(block, k)
+        Sender { shared, ..self }
     }
 
     // A data write.
@@ -224,8 +199,7 @@ impl Sender {
     pub fn send_abort(self, g: Sending) -> Sender
         ensures { result ≡ aborted g self }
     {
-        let mode = g.mode;
-        if in_sdlc(mode) {
+        if in_sdlc(g.mode) {
             return self.with_framer(framing::send_abort(self.framer(), g.framing));
         }
         self
@@ -249,13 +223,9 @@ impl Sender {
     pub fn idle(self) -> Sender
         ensures { result ≡ idled self }
     {
-        let shared = self.shared;
         Sender {
-            unit: LineUnit::Mark,
-            insertion: not_counted(),
-            character: Character::none(),
-            block: BlockUnit::Mark,
-            shared,
+            shared: self.shared,
+            ..Sender::reset()
         }
     }
 
@@ -263,20 +233,18 @@ impl Sender {
     pub fn all_sent(self, g: Sending) -> bool
         ensures { result ≡ all_sent g self }
     {
-        let mode = g.mode;
-        in_sdlc(mode) | in_blocks(mode) | (!self.character.under_way() & !self.shared.full)
+        in_sdlc(g.mode)
+            | in_blocks(g.mode)
+            | (!self.character.under_way() & self.shared.buffer.is_none())
     }
 
     // RR0 D2.
     pub fn buffer_ready(self, g: Sending) -> bool
         ensures { result ≡ buffer_ready g self }
     {
-        let mode = g.mode;
-        let u = self.unit;
-        let b = self.block;
-        if in_blocks(mode) {
-            return !self.shared.full & !b.sends_check();
+        if in_blocks(g.mode) {
+            return self.shared.buffer.is_none() & !self.block.sends_check();
         }
-        !self.shared.full & !u.checking()
+        self.shared.buffer.is_none() & !self.unit.checking()
     }
 }

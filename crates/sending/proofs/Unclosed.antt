@@ -1,6 +1,6 @@
 -- Whoever sees a whole frame on the line reads D6 as 1: while the latch is clear the line holds no
 -- closed frame. Assumes nothing.
-use Rattle.std.specs.Prelude.{◌≡◌, Bool, true, false, List, [], ◌∷◌, ◌++◌, ℕ, ◌-◌, ◌≤◌}
+use Rattle.std.specs.Prelude.{◌≡◌, Bool, true, false, List, [], ◌∷◌, ◌++◌, ℕ, ◌-◌, ◌≤◌, None}
 use Rattle.std.proofs.Math.Path.{refl}
 use Rattle.std.proofs.Common.{sym, ap, ◌∙◌, append_assoc, arith}
 use Rattle.std.proofs.lemmas.List.{append_cancel_left}
@@ -94,7 +94,6 @@ latch_set w c p st note s f e =
     bool_or (latch_of w (after c st)) (λ l. l)
     (λ z.
     let n = 8 - p in
-    let b = (chan w c).sender.shared.buffer in
     let rest = stuff 0 (content_of note) ++ flag_bits in
     let cut : line_of w c st ≡ flag_tail n ++ rest =
     append_cancel_left (flag_head p) (line_of w c st) (flag_tail n ++ rest)
@@ -102,8 +101,8 @@ latch_set w c p st note s f e =
     ∙ append_assoc (flag_head p) (flag_tail n) rest) in
     let l : n ≤ 7 = omega (arith, s.some) in
     let open-line =
-    story_unclosed w f (started p b) (ones_in n) (bits_in n) (start_side w c p s)
-    (in_flag n b false ones l) z in
+    story_unclosed w f (started p) (ones_in n) (bits_in n) (start_side w c p s)
+    (in_flag n None ones l) z in
     void (sym (frame_closed note) ∙ sym (tail_passes n l rest)
     ∙ ap (unclosed (ones_in n) (bits_in n)) (sym cut) ∙ open-line))
 

@@ -1,16 +1,19 @@
 -- Demand 3's underrun: the latch is set on the tick that finds the line dry and is shown then, the
 -- frame holds the bytes loaded so far, and no frame closes unseen. Assumes nothing.
-use Rattle.std.specs.Prelude.{◌≡◌, refl, true, false, List, [], ◌∷◌, ◌++◌, ℕ, ◌-◌}
+use Rattle.std.specs.Prelude.{◌≡◌, refl, true, false, List, [], ◌∷◌, ◌++◌, ℕ, ◌-◌, Option, Some, None, is_some}
+use Rattle.std.specs.Option.{unwrap_or}
 use Rattle.std.proofs.Common.{sym, ap, ◌∙◌}
 use Rattle.common.specs.Tools.{void}
 use Rattle.shared.specs.Shared.{shared}
+use Rattle.shared.specs.Laws.Buffer.{buffer_empty}
 use Rattle.sdlc.specs.declared.LineUnit.TheVariants.{Byte}
 use Rattle.sdlc.specs.declared.Framer.{Framer}
 use Rattle.sdlc.specs.Sending.{insertion, framer, tick_sdlc}
 use Rattle.sender.specs.Sender.{framer_of}
+use Rattle.status.specs.declared.Live.{Live}
 use Rattle.status.specs.declared.Status.{Status}
-use Rattle.status.specs.Status.{noticed}
-use Rattle.channel.specs.Channel.{settled}
+use Rattle.status.specs.Status.{noticed, shown_bits}
+use Rattle.channel.specs.Channel.{live_of, settled}
 use Rattle.channel.specs.Events.{transmit_tick}
 use Rattle.chip.specs.declared.Chip.{Chip}
 use Rattle.chip.specs.Chip.{transmit_call}
@@ -46,12 +49,12 @@ dry_latch w c d =
     let k = s.shared in
     let e : framer_of s
     ≡ framer (Byte 0 d.last) (insertion s.insertion.run false)
-    (shared k.buffer false false k.check) =
+    (shared None false k.check) =
     λ i. framer (d.byte i) (insertion s.insertion.run (d.paid i))
-    (shared k.buffer (d.empty i) (d.cleared i) k.check) in
+    (shared (buffer_empty k d.empty i) (d.cleared i) k.check) in
     ap (λ (x : SenderSide). x.sender.shared.latch) (tick_side w c (dry_heeds w c d))
     ∙ ap (λ (x : Framer). (tick_sdlc come.good x).framer.shared.latch) e
-    ∙ dry_sets d.last s.insertion.run k.buffer k.check
+    ∙ dry_sets d.last s.insertion.run k.check
 
 -- status that is latched stays as it is
 tick_held : (w : Which) (c : Chip) → status_latched w c ≡ true
@@ -60,9 +63,17 @@ unfolding transmit_call transmit_tick settled noticed
 tick_held A c n = rw n
 tick_held B c n = rw n
 
-latched_read : (w : Which) (c : Chip) → (chan w c).pointer ≡ 0 → status_latched w c ≡ true
-    → d6 w c ≡ (chan w c).status.shown.underrun
-latched_read w c p n = d6_read w c p ∙ rw n
+-- and what it shows is not as the bits now are
+latched_same : (o : Option Live) (x y : Live) → is_some o ≡ true → unwrap_or o x ≡ unwrap_or o y
+latched_same None x y n = void n
+latched_same (Some shown) x y n = refl
+
+latched_read : (w : Which) (c : Chip) (live : Live) → (chan w c).pointer ≡ 0
+    → status_latched w c ≡ true → d6 w c ≡ (shown_bits (chan w c).status live).underrun
+latched_read w c live p n =
+    d6_read w c p
+    ∙ ap (λ (x : Live). x.underrun)
+    (latched_same (chan w c).status.latched (live_of (chan w c)) live n)
 
 pub underrun : UnderrunShown
 underrun w c p d =
@@ -73,9 +84,12 @@ underrun w c p d =
       was = d.cleared;
       set = l;
       shown = λ n. shows_read w e q l (tick_shown w c (unlatched_shows (chan w c).status n) l);
-      held = λ n. let s = tick_held w c n in
-          latched_read w e q (ap (λ (x : Status). x.latched) s ∙ n)
-          ∙ ap (λ (x : Status). x.shown.underrun) s ∙ sym (latched_read w c p n);
+      held = λ n.
+          let s = tick_held w c n in
+          let live = live_of (chan w c) in
+          latched_read w e live q (ap (λ (x : Status). is_some x.latched) s ∙ n)
+          ∙ ap (λ (x : Status). (shown_bits x live).underrun) s
+          ∙ sym (latched_read w c live p n);
     }
 
 -- After a tick and after a write

@@ -5,6 +5,7 @@ use Rattle.std.proofs.Common.{sym, ap, ◌∙◌, subst, arith, length-append}
 use Rattle.common.specs.declared.Mode.TheVariants.{Sdlc}
 use Rattle.line.specs.Laws.Frame.{ticks_are}
 use Rattle.shared.specs.Preset.{preset_for}
+use Rattle.shared.specs.Shared.{full}
 use Rattle.sdlc.specs.declared.LineUnit.TheVariants.{Flag}
 use Rattle.sender.specs.declared.Sender.{Sender}
 use Rattle.sender.specs.Sender.{framer_of, check_preset, latch_cleared}
@@ -45,7 +46,7 @@ starts_anew w c p h =
       some = h.some;
       inside = h.inside;
       flag = ap (λ (t : Sender). t.unit) s ∙ h.flag;
-      empty = ap (λ (t : Sender). t.shared.full) s ∙ h.empty;
+      empty = ap (λ (t : Sender). full t.shared) s ∙ h.empty;
       preset =
           ap (λ (t : Sender). t.shared.check) s ∙ ap preset_for (mode_in_lem (chan w c) h.settings);
       cleared = ap (λ (t : Sender). t.shared.latch) s;
@@ -56,14 +57,14 @@ starts_anew w c p h =
 -- nothing is to come: the closing flag's last bit is sent
 flag_ended_lem : {s : Framer} {n : ℕ} → Stage false s n [] → length (to_come s []) ≡ 0
     → (s.unit ≡ Flag 0) × SoundUnit s.unit s.insertion
-flag_ended_lem (opening k b f c n _ m p) z =
-    absurd (omega (arith, unended_some (opening {a = false} k b f c n [] m p) refl))
-flag_ended_lem (in_byte k v r o b f c n _ m) z =
-    absurd (omega (arith, unended_some (in_byte {a = false} k v r o b f c n [] m) refl))
-flag_ended_lem (in_check k v r o b f c n) z =
-    absurd (omega (arith, unended_some (in_check {a = false} k v r o b f c n) refl))
-flag_ended_lem (closing zero b f c n) z = (refl, ((refl, refl), omega arith))
-flag_ended_lem (closing (suc k) b f c n) z = absurd (omega arith)
+flag_ended_lem (opening k b c n _ m p) z =
+    absurd (omega (arith, unended_some (opening {a = false} k b c n [] m p) refl))
+flag_ended_lem (in_byte k v r o b c n _ m) z =
+    absurd (omega (arith, unended_some (in_byte {a = false} k v r o b c n [] m) refl))
+flag_ended_lem (in_check k v r o b c n) z =
+    absurd (omega (arith, unended_some (in_check {a = false} k v r o b c n) refl))
+flag_ended_lem (closing zero b c n) z = (refl, ((refl, refl), omega arith))
+flag_ended_lem (closing (suc k) b c n) z = absurd (omega arith)
 
 pub frame_ends : FrameEnds
 frame_ends w c p v vs st s i n f q =

@@ -5,6 +5,7 @@ use Rattle.std.proofs.Common.{sym, ap, ap₂, ◌∙◌, append_assoc, append-ni
 use Rattle.common.specs.Tools.{no_items}
 use Rattle.line.specs.Frame.{frame}
 use Rattle.line.specs.Laws.Frame.{ticks_are}
+use Rattle.shared.specs.Shared.{full}
 use Rattle.sdlc.specs.declared.Framer.{Framer}
 use Rattle.sdlc.specs.declared.Framed.{Framed}
 use Rattle.sdlc.specs.Sending.{tick_sdlc}
@@ -74,7 +75,7 @@ ticks_on w c st s t bit rest left h z e k = record {
 -- a tick in time, on the chip: the sender behind it, and its stage
 pub record TickTaken (a : Bool) (w : Which) (c : Chip) (s : Framer) (n : ℕ)
     (rest : List ℕ) : Type 0 where
-  pub timely : in_time s.shared.full n rest ≡ true
+  pub timely : in_time (full s.shared) n rest ≡ true
   pub took : Takes a s n rest
   pub there : side_of w (happens c (Transmit (number w))).chip ≡ side took.next good
   pub stage : let d = (happens c (Transmit (number w))).chip in
@@ -84,16 +85,16 @@ pub tick_taken : {a : Bool} (w : Which) (c : Chip) (s : Framer) (n : ℕ) (rest 
     → side_of w c ≡ side s good → Stage a s n rest → in_time (full_of w c) n rest ≡ true
     → 1 ≤ length (to_come s rest) → TickTaken a w c s n rest
 tick_taken w c s n rest e g f l =
-    let timely = ap (λ (x : SenderSide). in_time x.sender.shared.full n rest) (sym e) ∙ f in
+    let timely = ap (λ (x : SenderSide). in_time (full x.sender.shared) n rest) (sym e) ∙ f in
     let t = takes g timely l in
     let d = (happens c (Transmit (number w))).chip in
     let y : side_of w d ≡ side t.next good =
     tick_side w c (ap (λ (x : SenderSide). x.heeds) e)
     ∙ ap (λ (x : Framed). side x.framer good)
     (ap (λ (x : SenderSide). tick_sdlc come.good x.sender) e ∙ t.ticks) in
-    let q : since_after s.shared.full t.next.shared.full n
+    let q : since_after (full s.shared) (full t.next.shared) n
     ≡ since_after (full_of w c) (full_of w d) n =
-    ap₂ (λ (x y : SenderSide). since_after x.sender.shared.full y.sender.shared.full n)
+    ap₂ (λ (x y : SenderSide). since_after (full x.sender.shared) (full y.sender.shared) n)
     (sym e) (sym y) in
     record { timely = timely; took = t; there = y; stage = rw q at t.stage }
 
@@ -110,7 +111,7 @@ conserved w {left} (still {c = c} {rest = rest} {e = x} {st = st} r k i) s e g l
     skip w c x st s s rest rest left z refl
     (conserved w i s (k ∙ e) g (omega (arith, skip_ticks w x st z)))
 conserved w {left} (writes {c = c} {v = v} {rest = rest} {st = st} f i) s e g l =
-    let m = moves g (sym (ap (λ (x : SenderSide). x.sender.shared.full) e) ∙ f) in
+    let m = moves g (sym (ap (λ (x : SenderSide). full x.sender.shared) e) ∙ f) in
     let z = write_no_tick w v in
     skip w c (DataWrite (number w) v) st s (filled_with s v) (v ∷ rest) rest left z m.0
     (conserved w i (filled_with s v)
@@ -141,13 +142,12 @@ conserved w {left} (ticking {c = c} {n = n} {rest = rest} {st = st} f i) s e g l
 pub frame_kept : (w : Which) (c : Chip) (p v : ℕ) (vs left : List ℕ) (st : List Event) → Start w c p
     → InTime w left c (p - 1) (v ∷ vs) st
     → p + ticks w st ≤ length (frame (v ∷ vs))
-    → (k : Conserved false w c st (started p (chan w c).sender.shared.buffer) (v ∷ vs) left)
+    → (k : Conserved false w c st (started p) (v ∷ vs) left)
     × (flag_head p ++ (line_of w c st ++ to_come k.last left) ≡ frame (v ∷ vs))
 frame_kept w c p v vs left st s i n =
-    let b = (chan w c).sender.shared.buffer in
-    let x = started p b in
-    let a = at_start p b (v ∷ vs) s.some s.inside in
-    let k = conserved w i x (start_side w c p s) (start_stage p b v vs s.some s.inside)
+    let x = started p in
+    let a = at_start p (v ∷ vs) s.some s.inside in
+    let k = conserved w i x (start_side w c p s) (start_stage p v vs s.some s.inside)
     (omega (
       arith,
       head_length p s.inside,

@@ -1,6 +1,6 @@
 -- Demand 3, sending, in its own words, over the events of the chip and for either channel w.
 -- Proofs: Frame, Chain, Underrun, Unclosed, Abort. Assumes nothing.
-use Rattle.std.specs.Prelude.{◌≡◌, Bool, true, false, List, [], ◌∷◌, ◌++◌, ℕ, ◌+◌, ◌-◌, ◌*◌, ◌/◌, ◌≤◌, length, take}
+use Rattle.std.specs.Prelude.{◌≡◌, Bool, true, false, List, [], ◌∷◌, ◌++◌, ℕ, ◌+◌, ◌-◌, ◌*◌, ◌/◌, ◌≤◌, length, take, is_some}
 use Rattle.line.specs.Frame.{frame, zeros_of}
 use Rattle.sdlc.specs.declared.LineUnit.TheVariants.{Flag, Byte}
 use Rattle.sdlc.specs.Sound.{SoundUnit}
@@ -74,7 +74,7 @@ pub record RunsDry (w : Which) (c : Chip) : Type 0 where
   pub settings : Good (sending_in (chan w c))
 
 abbrev pub status_latched : Which → Chip → Bool
-status_latched w c = (chan w c).status.latched
+status_latched w c = is_some (chan w c).status.latched
 
 -- "the underrun latch is set on that tick, shown then unless status was latched", in which case D6
 -- reads as before

@@ -3,7 +3,11 @@ use Rattle.std.specs.Prelude.{Bool, not, ◌&&◌, ◌||◌, ℕ, ◌/◌, ◌%�
 use Rattle.common.specs.declared.Mode.{Mode}
 use Rattle.common.specs.declared.Mode.TheVariants.{Asynchronous, Monosync, Bisync, Sdlc}
 use Rattle.line.specs.Bits.{odd}
+use Rattle.shapes.specs.declared.Length.{Length}
+use Rattle.shapes.specs.declared.Length.TheVariants.{Five, Six, Seven, Eight}
 use Rattle.asynchronous.specs.declared.Format.{Format}
+use Rattle.asynchronous.specs.declared.Stops.{Stops}
+use Rattle.asynchronous.specs.declared.Stops.TheVariants.{One, Two}
 use Rattle.bytesync.specs.declared.Syncs.{Syncs}
 use Rattle.bytesync.specs.Syncs.{syncs, polynomial_of}
 use Rattle.bytesync.specs.Sending.{syncing}
@@ -13,6 +17,8 @@ use Rattle.sender.specs.declared.Sending.{Sending}
 use Rattle.receiver.specs.declared.Receiving.{Receiving}
 use Rattle.settings.specs.declared.Registers.{Registers}
 use Rattle.settings.specs.declared.Lines.{Lines}
+use Rattle.settings.specs.declared.ReceiveMode.{ReceiveMode}
+use Rattle.settings.specs.declared.ReceiveMode.TheVariants.{Off, First, AllParitySpecial, All}
 
 -- the registers as written, and one of them written anew (WR4: below); the mode is what the last
 -- WR4 chose: a reset "zeroes the WRs" and "leaves no mode", and a WR4 of zero, once it is written,
@@ -66,8 +72,14 @@ transmit_on wr1 = odd (wr1 / 2)
 abbrev pub status_affects : ℕ → Bool
 status_affects wr1 = odd (wr1 / 4)
 
-abbrev pub receive_mode : ℕ → ℕ
-receive_mode wr1 = wr1 / 8 % 4
+abbrev pub receive_field : ℕ → ℕ
+receive_field wr1 = wr1 / 8 % 4
+
+abbrev pub receive_mode : ℕ → ReceiveMode
+receive_mode wr1 =
+    if eqb (receive_field wr1) 0 then Off
+    else (if eqb (receive_field wr1) 1 then First
+    else (if eqb (receive_field wr1) 2 then AllParitySpecial else All))
 
 -- "WR3: D0 on, D2 address search, D4 enter hunt, D5 auto enables, D7-6 length"; 02, P3: D1 "keeps
 -- leading sync characters out of the queue", D3 lets a character into the receive check
@@ -158,12 +170,13 @@ abbrev pub polynomial_in : Registers → ℕ
 polynomial_in r = polynomial_of (crc16_chosen r.wr5)
 
 -- "Lengths: 00 five, 01 seven, 10 six, 11 eight."
-unfoldable pub length_of : ℕ → ℕ
+unfoldable pub length_of : ℕ → Length
 length_of field =
-    if eqb field 0 then 5 else (if eqb field 1 then 7 else (if eqb field 2 then 6 else 8))
+    if eqb field 0 then Five
+    else (if eqb field 1 then Seven else (if eqb field 2 then Six else Eight))
 
-abbrev pub stops_of : ℕ → ℕ
-stops_of wr4 = if eqb (stop_field wr4) 3 then 2 else 1
+abbrev pub stops_of : ℕ → Stops
+stops_of wr4 = if eqb (stop_field wr4) 3 then Two else One
 
 -- a character's length, by its two bits, and its parity
 abbrev pub format_of : Registers → ℕ → Format

@@ -1,18 +1,20 @@
 // 01, Registers: the write registers as written, and what they say. Each bit is named once. Assumes nothing.
 #![tactic(auto)]
 
-ghost use Rattle.std.specs.Prelude.{◌≡◌};
+ghost use Rattle.std.specs.Prelude.{◌≡◌, ◌<◌, ◌/◌, ◌^◌};
+ghost use Rattle.line.specs.Bits.{odd};
 ghost use Rattle.settings.specs.Settings.{pointer_in, command_in, preset_in, external_on, transmit_on, status_affects, receive_mode, enters_hunt, breaks};
 ghost use Rattle.settings.specs.Settings.{auto_enables, stop_field, synchronous_field, check_included};
 ghost use Rattle.settings.specs.Settings.{mode_of, mode_in, store4, syncs_in, polynomial_in, not_built};
 ghost use Rattle.settings.specs.Settings.{length_of, stops_of, format_of, sends, framing_of, sending_of, receiving_of};
 
-use asynchronous::{Format, Typing};
+use asynchronous::{Format, Stops, Typing};
 use bytesync::{Matching, Syncing, Syncs, polynomial_of};
 use common::Mode;
 use receiver::Receiving;
 use sdlc::{Addressing, Framing};
 use sender::Sending;
+use shapes::Length;
 
 // WR1 to WR7 as they were written; WR2 in channel B alone. The mode is what the last WR4 chose, none since a reset.
 #[derive(Clone, Copy)]
@@ -32,6 +34,23 @@ pub struct Registers {
 pub struct Lines {
     pub dcd: bool,
     pub cts: bool,
+}
+
+// Which characters that wait interrupt; a special one does too, but in Off.
+#[derive(Clone, Copy, PartialEq, Eq)]
+pub enum ReceiveMode {
+    Off,
+    First,
+    AllParitySpecial,
+    All,
+}
+
+// Bit D of a register.
+fn bit(register: u8, d: u8) -> bool
+    requires { d < 8 }
+    ensures { result ≡ odd (register / 2 ^ d) }
+{
+    (register >> d) % 2 == 1
 }
 
 // WR0's pointer.
@@ -59,49 +78,54 @@ pub fn preset_in(wr0: u8) -> u8
 pub fn external_on(wr1: u8) -> bool
     ensures { result ≡ external_on wr1 }
 {
-    wr1 % 2 == 1
+    bit(wr1, 0)
 }
 
 // WR1's transmit interrupt is on.
 pub fn transmit_on(wr1: u8) -> bool
     ensures { result ≡ transmit_on wr1 }
 {
-    wr1 / 2 % 2 == 1
+    bit(wr1, 1)
 }
 
 // WR1, of B: status affects the vector.
 pub fn status_affects(wr1: u8) -> bool
     ensures { result ≡ status_affects wr1 }
 {
-    wr1 / 4 % 2 == 1
+    bit(wr1, 2)
 }
 
-// WR1's receive interrupt: 0 off, 1 first, 2 all with parity special, 3 all.
-pub fn receive_mode(wr1: u8) -> u8
+// WR1's receive interrupt.
+pub fn receive_mode(wr1: u8) -> ReceiveMode
     ensures { result ≡ receive_mode wr1 }
 {
-    wr1 / 8 % 4
+    match wr1 / 8 % 4 {
+        0 => ReceiveMode::Off,
+        1 => ReceiveMode::First,
+        2 => ReceiveMode::AllParitySpecial,
+        _ => ReceiveMode::All,
+    }
 }
 
 // WR3's D4.
 pub fn enters_hunt(wr3: u8) -> bool
     ensures { result ≡ enters_hunt wr3 }
 {
-    wr3 / 16 % 2 == 1
+    bit(wr3, 4)
 }
 
 // WR5's break.
 pub fn breaks(wr5: u8) -> bool
     ensures { result ≡ breaks wr5 }
 {
-    wr5 / 16 % 2 == 1
+    bit(wr5, 4)
 }
 
 // WR3's auto enables: on takes the line with it.
 fn auto_enables(wr3: u8) -> bool
     ensures { result ≡ auto_enables wr3 }
 {
-    wr3 / 32 % 2 == 1
+    bit(wr3, 5)
 }
 
 // WR4's D3-2: stop bits.
@@ -122,51 +146,53 @@ fn synchronous_field(wr4: u8) -> u8
 fn check_included(wr5: u8) -> bool
     ensures { result ≡ check_included wr5 }
 {
-    wr5 % 2 == 1
+    bit(wr5, 0)
 }
 
 // The mode that this WR4 chooses.
+#[tactic(auto, unfolding(crate::specs::Settings::mode_of))]
 pub fn mode_of(wr4: u8) -> Mode
     ensures { result ≡ mode_of wr4 }
 {
-    if stop_field(wr4) == 0 {
-        let kind = synchronous_field(wr4);
-        if kind == 2 {
-            return Mode::Sdlc;
-        }
-        if kind == 1 {
-            return Mode::Bisync;
-        }
-        return Mode::Monosync;
+    match (stop_field(wr4), synchronous_field(wr4)) {
+        (0, 2) => Mode::Sdlc,
+        (0, 1) => Mode::Bisync,
+        (0, _) => Mode::Monosync,
+        _ => Mode::Asynchronous,
     }
-    Mode::Asynchronous
 }
 
 // This WR4 asks for what is not built.
+#[tactic(auto, unfolding(crate::specs::Settings::not_built))]
 pub fn not_built(wr4: u8) -> bool
     ensures { result ≡ not_built wr4 }
 {
     let stops = stop_field(wr4);
-    (wr4 / 64 != 0) | ((stops == 2) | ((stops == 0) & (synchronous_field(wr4) == 3)))
+    wr4 / 64 != 0 || stops == 2 || (stops == 0 && synchronous_field(wr4) == 3)
 }
 
-// The number of bits that a length's two bits name.
-fn length_of(field: u8) -> u8
+// The length that its two bits name.
+#[tactic(auto, unfolding(crate::specs::Settings::length_of))]
+fn length_of(field: u8) -> Length
     ensures { result ≡ length_of field }
 {
     match field {
-        0 => 5,
-        1 => 7,
-        2 => 6,
-        _ => 8,
+        0 => Length::Five,
+        1 => Length::Seven,
+        2 => Length::Six,
+        _ => Length::Eight,
     }
 }
 
-// The number of stop bits to send.
-fn stops_of(wr4: u8) -> u8
+// The stop bits to send.
+fn stops_of(wr4: u8) -> Stops
     ensures { result ≡ stops_of wr4 }
 {
-    if stop_field(wr4) == 3 { 2 } else { 1 }
+    if stop_field(wr4) == 3 {
+        Stops::Two
+    } else {
+        Stops::One
+    }
 }
 
 impl Registers {
@@ -183,14 +209,9 @@ impl Registers {
         ensures { result ≡ store4 self wr4 }
     {
         Registers {
-            wr1: self.wr1,
-            wr2: self.wr2,
-            wr3: self.wr3,
             wr4,
-            wr5: self.wr5,
-            wr6: self.wr6,
-            wr7: self.wr7,
             mode: mode_of(wr4),
+            ..self
         }
     }
 
@@ -209,7 +230,7 @@ impl Registers {
     fn polynomial(self) -> u16
         ensures { result ≡ polynomial_in self }
     {
-        polynomial_of(self.wr5 / 4 % 2 == 1)
+        polynomial_of(bit(self.wr5, 2))
     }
 
     // A character's length and parity, the length by its two bits.
@@ -218,8 +239,8 @@ impl Registers {
     {
         Format {
             length: length_of(field),
-            parity: self.wr4 % 2 == 1,
-            even: self.wr4 / 2 % 2 == 1,
+            parity: bit(self.wr4, 0),
+            even: bit(self.wr4, 1),
         }
     }
 
@@ -227,7 +248,7 @@ impl Registers {
     fn sends(self, l: Lines) -> bool
         ensures { result ≡ sends self l }
     {
-        (self.wr5 / 8 % 2 == 1) & (!auto_enables(self.wr3) | l.cts)
+        bit(self.wr5, 3) && (!auto_enables(self.wr3) || l.cts)
     }
 
     // What SDLC's sender is told.
@@ -241,6 +262,7 @@ impl Registers {
     }
 
     // The sender's settings.
+    #[tactic(auto, unfolding(crate::specs::Settings::sending_of))]
     pub fn sending(self, l: Lines) -> Sending
         ensures { result ≡ sending_of self l }
     {
@@ -264,21 +286,22 @@ impl Registers {
     }
 
     // The receiver's settings.
+    #[tactic(auto, unfolding(crate::specs::Settings::receiving_of))]
     pub fn receiving(self, l: Lines) -> Receiving
         ensures { result ≡ receiving_of self l }
     {
         Receiving {
             mode: self.mode(),
-            on: (self.wr3 % 2 == 1) & (!auto_enables(self.wr3) | l.dcd),
+            on: bit(self.wr3, 0) && (!auto_enables(self.wr3) || l.dcd),
             addressing: Addressing {
-                search: self.wr3 / 4 % 2 == 1,
+                search: bit(self.wr3, 2),
                 address: self.wr6,
             },
             format: self.format(self.wr3 / 64),
             matching: Matching {
                 syncs: self.syncs(),
-                strip: self.wr3 / 2 % 2 == 1,
-                checking: self.wr3 / 8 % 2 == 1,
+                strip: bit(self.wr3, 1),
+                checking: bit(self.wr3, 3),
                 polynomial: self.polynomial(),
             },
         }

@@ -1,32 +1,33 @@
 -- Laws of the bits that are sent: how many they are, at which lengths a shape counts, and what
 -- parity makes of their ones. Assumes nothing.
-use Rattle.std.specs.Prelude.{◌≡◌, refl, Bool, true, false, not, List, [], ◌∷◌, ◌++◌, ℕ, ◌≤◌, eqb}
+use Rattle.std.specs.Prelude.{◌≡◌, refl, Bool, true, false, not, List, [], ◌∷◌, ◌++◌, ℕ, ◌≤◌}
 use Rattle.std.proofs.Common.{ap, ◌∙◌, arith}
-use Rattle.common.specs.Tools.{if_elim}
 use Rattle.line.specs.Bits.{low_bits}
 use Rattle.line.specs.Check.{differs}
 use Rattle.line.specs.Laws.Xor.{differs_self}
+use Rattle.shapes.specs.declared.Length.{Length}
+use Rattle.shapes.specs.declared.Length.TheVariants.{Five, Six, Seven, Eight}
 use Rattle.shapes.specs.Shapes.{shape_bits}
 use Rattle.shapes.specs.Sent.{bits_sent, odd_over, parity_bit, parity_of}
 use Rattle.shapes.specs.Laws.Shapes.{shape_least, shape_most}
 
 -- a character sends one to eight bits
-pub bits_least : (n v : ℕ) → 1 ≤ bits_sent n v
+pub bits_least : (n : Length) (v : ℕ) → 1 ≤ bits_sent n v
 unfolding bits_sent
-bits_least n v =
-    if_elim (λ (x : ℕ). 1 ≤ x) (eqb n 5) (shape_least v)
-    (if_elim (λ (x : ℕ). 1 ≤ x) (eqb n 6) (omega arith)
-    (if_elim (λ (x : ℕ). 1 ≤ x) (eqb n 7) (omega arith) (omega arith)))
+bits_least Five v = shape_least v
+bits_least Six v = omega arith
+bits_least Seven v = omega arith
+bits_least Eight v = omega arith
 
-pub bits_most : (n v : ℕ) → bits_sent n v ≤ 8
+pub bits_most : (n : Length) (v : ℕ) → bits_sent n v ≤ 8
 unfolding bits_sent
-bits_most n v =
-    if_elim (λ (x : ℕ). x ≤ 8) (eqb n 5) (omega (arith, shape_most v))
-    (if_elim (λ (x : ℕ). x ≤ 8) (eqb n 6) (omega arith)
-    (if_elim (λ (x : ℕ). x ≤ 8) (eqb n 7) (omega arith) (omega arith)))
+bits_most Five v = omega (arith, shape_most v)
+bits_most Six v = omega arith
+bits_most Seven v = omega arith
+bits_most Eight v = omega arith
 
 -- at the other lengths no shape counts
-pub other_lengths : (v : ℕ) → (bits_sent 6 v ≡ 6) × (bits_sent 7 v ≡ 7) × (bits_sent 8 v ≡ 8)
+pub other_lengths : (v : ℕ) → (bits_sent Six v ≡ 6) × (bits_sent Seven v ≡ 7) × (bits_sent Eight v ≡ 8)
 unfolding bits_sent
 other_lengths v = (refl, refl, refl)
 
@@ -66,6 +67,6 @@ parity_total false bs =
     differs-other false = refl
 
 -- F1 sends one 1: with odd parity a 0 behind it, with even a 1; five bits of it would be two ones
-pub parity_of_one_bit : (parity_of false 5 0xF1 ≡ false) × (parity_of true 5 0xF1 ≡ true)
+pub parity_of_one_bit : (parity_of false Five 0xF1 ≡ false) × (parity_of true Five 0xF1 ≡ true)
 unfolding bits_sent shape_bits low_bits odd_over
 parity_of_one_bit = (refl, refl)

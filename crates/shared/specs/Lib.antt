@@ -1,2 +1,3 @@
 pub mod Shared
 pub mod Preset
+pub mod Laws

@@ -8,11 +8,10 @@ ghost use Rattle.shared.specs.Shared.{shared_at_reset, filled, emptied, latched,
 use common::{Mode, in_blocks};
 use line::{ONES, check_byte};
 
-// latch: Underrun/EOM, RR0 D6.
+// buffer: the byte that waits in it, if it is full. latch: Underrun/EOM, RR0 D6.
 #[derive(Clone, Copy)]
 pub struct Shared {
-    pub full: bool,
-    pub buffer: u8,
+    pub buffer: Option<u8>,
     pub check: u16,
     pub latch: bool,
 }
@@ -33,8 +32,7 @@ impl Shared {
         ensures { result ≡ shared_at_reset }
     {
         Shared {
-            buffer: 0,
-            full: false,
+            buffer: None,
             latch: true,
             check: ONES,
         }
@@ -44,8 +42,7 @@ impl Shared {
     pub fn filled(mut self, v: u8) -> Shared
         ensures { result ≡ filled self v }
     {
-        self.buffer = v;
-        self.full = true;
+        self.buffer = Some(v);
         self
     }
 
@@ -53,7 +50,7 @@ impl Shared {
     pub fn emptied(mut self) -> Shared
         ensures { result ≡ emptied self }
     {
-        self.full = false;
+        self.buffer = None;
         self
     }
 
@@ -81,12 +78,12 @@ impl Shared {
         self
     }
 
-    // The byte in the buffer enters the check over the polynomial p, if it is included.
-    pub fn entered(self, p: u16, included: bool) -> Shared
-        ensures { result ≡ entered p included self }
+    // The byte v enters the check over the polynomial p, if it is included.
+    pub fn entered(self, v: u8, p: u16, included: bool) -> Shared
+        ensures { result ≡ entered p included v self }
     {
         if included {
-            return self.check_set(check_byte(p, self.check, self.buffer));
+            return self.check_set(check_byte(p, self.check, v));
         }
         self
     }

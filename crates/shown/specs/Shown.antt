@@ -1,10 +1,11 @@
 -- What RR0 shows of the underrun latch: D6 as a control read gives it, and that it is shown from
 -- the moment it is set until it is cleared. Assumes nothing.
-use Rattle.std.specs.Prelude.{◌≡◌, refl, Bool, true, false, not, ◌&&◌, ◌||◌, ℕ, ◌+◌, ◌/◌, eqb, leb, if◌then◌else◌}
+use Rattle.std.specs.Prelude.{◌≡◌, refl, Bool, true, false, not, ◌&&◌, ◌||◌, ℕ, ◌+◌, ◌/◌, eqb, leb, Option, Some, None, is_some, IfSome}
+use Rattle.std.specs.Option.{unwrap_or}
 use Rattle.std.proofs.Common.{sym, ap, ◌∙◌, arith}
 use Rattle.common.specs.Bit.{placed}
 use Rattle.common.specs.Mode.{in_sdlc, synchronous, same_mode}
-use Rattle.common.specs.Tools.{if_elim, by_test, void}
+use Rattle.common.specs.Tools.{if_elim, void}
 use Rattle.line.specs.Bits.{odd}
 use Rattle.queue.specs.Queue.{waits}
 use Rattle.sdlc.specs.declared.Framer.{Framer}
@@ -16,10 +17,11 @@ use Rattle.interrupts.specs.Interrupts.{acknowledged, ended}
 use Rattle.settings.specs.Settings.{command_in, preset_in, enters_hunt, mode_of, mode_in, not_built}
 use Rattle.settings.specs.Settings.{sending_of}
 use Rattle.channel.specs.declared.Side.{Side}
+use Rattle.status.specs.declared.Live.{Live}
 use Rattle.status.specs.declared.Status.{Status}
 use Rattle.channel.specs.declared.Channel.{Channel}
 use Rattle.channel.specs.declared.Answered.{Answered}
-use Rattle.status.specs.Status.{changed, noticed, shown_bits, afresh}
+use Rattle.status.specs.Status.{status, changed, noticed, shown_bits, latched_again, afresh}
 use Rattle.channel.specs.Channel.{with_status, live_of, settled}
 use Rattle.channel.specs.Control.{commanded, preset, command_step, preset_step, write_wr0, set_wr2}
 use Rattle.channel.specs.Control.{set_wr4, set_register, control_written, rr0}
@@ -70,20 +72,24 @@ d6_read w c p =
 
 -- status that is latched shows D6 as 1; status that is not shows the latch itself
 abbrev pub Shows : Status → Type 0
-Shows s = s.latched ≡ true → s.shown.underrun ≡ true
+Shows s = IfSome s.latched (λ shown. shown.underrun ≡ true)
 
 pub shows_read : (w : Which) (c : Chip) → (chan w c).pointer ≡ 0 → latch_of w c ≡ true
     → Shows (chan w c).status → d6 w c ≡ true
 unfolding live_of
-shows_read w c p l h = d6_read w c p ∙ go (chan w c).status.latched refl
+shows_read w c p l h = d6_read w c p ∙ go (chan w c).status.latched h
   where
-    go : (t : Bool) → (chan w c).status.latched ≡ t
-        → (if t then (chan w c).status.shown else live_of (chan w c)).underrun ≡ true
-    go true e = h e
-    go false e = l
+    go : (o : Option Live) → Shows (status o)
+        → (unwrap_or o (live_of (chan w c))).underrun ≡ true
+    go None h = l
+    go (Some shown) h = h
 
-pub unlatched_shows : (s : Status) → s.latched ≡ false → Shows s
-unlatched_shows s n e = void (sym n ∙ e)
+pub unlatched_shows : (s : Status) → is_some s.latched ≡ false → Shows s
+unlatched_shows s = go s.latched
+  where
+    go : (o : Option Live) → is_some o ≡ false → Shows (status o)
+    go None n = tt
+    go (Some shown) n = void (sym n)
 
 -- a channel, with what a final latch that is set says of it
 abbrev StatusShows : Channel → Type 0
@@ -98,13 +104,18 @@ Shown c = c.sender.shared.latch ≡ true → Shows c.status
 settled_shown : (was is : Channel) → Shows is.status → Shown (settled was is)
 unfolding settled noticed live_of
 settled_shown was is h l =
-    if_elim Shows is.status.latched h
-    (if_elim Shows (changed (live_of was) (live_of is)) (λ e. l) h)
+    if_elim Shows (is_some is.status.latched) h
+    (if_elim Shows (changed (live_of was) (live_of is)) l h)
 
-afresh_shows : (c : Channel) → c.sender.shared.latch ≡ true → Shows c.status
-    → Shows (afresh c.status (live_of c))
+-- Reset External/Status shows a latch that is set, whatever was shown before
+afresh_shows : (c : Channel) → LatchSet c → Shows (afresh c.status (live_of c))
 unfolding afresh live_of
-afresh_shows c l h = if_elim Shows c.status.latched (λ e. l) h
+afresh_shows c l = go c.status.latched
+  where
+    go : (o : Option Live) → Shows (status (latched_again o (live_of c)))
+    go None = tt
+    go (Some shown) =
+        if_elim (λ (o : Option Live). Shows (status o)) (changed shown (live_of c)) l tt
 
 module _ (c : Channel) (l : c.sender.shared.latch ≡ true) (h : Shows c.status) where
   aborted_latch : (aborted (sending_in c) c.sender).shared.latch ≡ true
@@ -118,7 +129,7 @@ module _ (c : Channel) (l : c.sender.shared.latch ≡ true) (h : Shows c.status)
   unfolding commanded
   commanded_shows k =
       if_elim StatusShows (eqb k 1) h
-      (if_elim StatusShows (eqb k 2) (afresh_shows c l h)
+      (if_elim StatusShows (eqb k 2) (afresh_shows c l)
       (if_elim StatusShows (eqb k 4) h
       (if_elim StatusShows (eqb k 5) h (if_elim StatusShows (eqb k 6) h h))))
 
@@ -145,7 +156,7 @@ wr0_shown c v l h =
     let d = settled c (commanded c k) in
     let t : d.sender.shared.latch ≡ true = unfold settled in (commanded_latch c l h k) in
     let g : Shows d.status = settled_shown c (commanded c k) (commanded_shows c l h k) t in
-    if_elim Shown (eqb k 3) (λ z e. void e) (settled_shown d (preset d j) (preset_shows d j g))
+    if_elim Shown (eqb k 3) (λ z. tt) (settled_shown d (preset d j) (preset_shows d j g))
 
 register_shows : (c : Channel) (s : Side) (p v : ℕ) → Shows c.status
     → Shows (set_register c s p v).status
@@ -197,8 +208,8 @@ pub event_shown : (w : Which) (c : Chip) (e : Event) → latch_of w c ≡ true �
 unfolding
     control_write control_write_a control_write_b control_read_call data_write_call data_read_call data_read
     transmit_call transmit_tick receive_call receive_tick lines_call lines_set acknowledge reti
-event_shown A c HardReset l h = λ z e. void e
-event_shown B c HardReset l h = λ z e. void e
+event_shown A c HardReset l h = λ z. tt
+event_shown B c HardReset l h = λ z. tt
 event_shown A c (ControlWrite ch v) l h =
     by_channel_lem (ShownIn A) c ch (λ z. h)
     (λ e. control_shown c.a channels.A v l h)
@@ -239,12 +250,6 @@ event_shown w c Acknowledge l h =
     λ z. service_shows w c (acknowledged (pending_of c) c.service) h
 event_shown w c Reti l h = λ z. service_shows w c (ended c.service) h
 
--- Reset External/Status shows a latch that is set, whatever was shown before
-afresh_seen : (c : Channel) → LatchSet c → Shows (afresh c.status (live_of c))
-unfolding afresh live_of
-afresh_seen c l =
-    by_test Shows c.status.latched (λ e e1. l) (λ e. unlatched_shows c.status e)
-
 reset_channel : (c : Channel) (s : Side) → c.pointer ≡ 0 → LatchSet c
     → let d =
     (control_written c s reset_status).channel in (d.pointer ≡ 0) × LatchSet d × StatusShows d
@@ -253,7 +258,7 @@ reset_channel c s p l =
     let x : eqb c.pointer 0 ≡ true = ap (λ (n : ℕ). eqb n 0) p in
     let d = settled c (with_status c (afresh c.status (live_of c))) in
     let h : StatusShows d =
-    settled_shown c (with_status c (afresh c.status (live_of c))) (afresh_seen c l) l in
+    settled_shown c (with_status c (afresh c.status (live_of c))) (afresh_shows c l) l in
     rw x (refl, l, settled_shown d d h l)
 
 pub reset_seen : (w : Which) (c : Chip) → (chan w c).pointer ≡ 0 → latch_of w c ≡ true

@@ -4,6 +4,7 @@ use Rattle.std.proofs.Common.{sym, ap, ap₂, ◌∙◌, subst, arith}
 use Rattle.common.specs.Tools.{both_left, both_right, not_true}
 use Rattle.line.specs.declared.Insertion.{Insertion}
 use Rattle.shared.specs.declared.Shared.{Shared}
+use Rattle.shared.specs.Shared.{full}
 use Rattle.sdlc.specs.declared.LineUnit.{LineUnit}
 use Rattle.sdlc.specs.declared.LineUnit.TheVariants.{Mark, Flag, Byte, Check, Abort}
 use Rattle.sdlc.specs.declared.Framing.{Framing}
@@ -35,15 +36,15 @@ begins g (Abort m) r k o n =
 begins g (Check m v) r k o n =
     begun_by (tick_chooses g r k (Check m v) n ∙ next_check g r k o m v)
 begins g (Flag m) r k o n =
-    let z = both_left (eqb m 0) (not k.full) n in
-    let f = not_true k.full (both_right (eqb m 0) (not k.full) n) in
+    let z = both_left (eqb m 0) (not (full k)) n in
+    let f = not_true (full k) (both_right (eqb m 0) (not (full k)) n) in
     begun_by (tick_chooses g r k (Flag m) z ∙ next_flag_empty g r k o m f)
 begins g (Byte m v) r k o n =
     let c = not k.latch && g.included in
-    let z = both_left (eqb m 0) (not k.full && not c) n in
-    let y = both_right (eqb m 0) (not k.full && not c) n in
-    let f = not_true k.full (both_left (not k.full) (not c) y) in
-    let i = not_true c (both_right (not k.full) (not c) y) in
+    let z = both_left (eqb m 0) (not (full k) && not c) n in
+    let y = both_right (eqb m 0) (not (full k) && not c) n in
+    let f = not_true (full k) (both_left (not (full k)) (not c) y) in
+    let i = not_true c (both_right (not (full k)) (not c) y) in
     begun_by (tick_chooses g r k (Byte m v) z ∙ next_byte_flag g r k o m v f i)
 
 -- The flag goes on

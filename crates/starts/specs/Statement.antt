@@ -6,6 +6,7 @@ use Rattle.std.specs.Prelude.{◌≡◌, Bool, true, false, not, ◌&&◌, List,
 use Rattle.common.specs.declared.Mode.TheVariants.{Sdlc}
 use Rattle.line.specs.Check.{ones}
 use Rattle.shared.specs.declared.Shared.{Shared}
+use Rattle.shared.specs.Shared.{full}
 use Rattle.sdlc.specs.declared.LineUnit.{LineUnit}
 use Rattle.sdlc.specs.declared.LineUnit.TheVariants.{Mark, Flag, Byte, Check, Abort}
 use Rattle.chip.specs.declared.Chip.{Chip}
@@ -25,8 +26,8 @@ pub record OnAir (w : Which) (c : Chip) : Type 0 where
 -- a flag is next: behind a mark, an abort, a check, a byte without a check, another flag
 abbrev pub flag_next : Bool → Shared → LineUnit → Bool
 flag_next included k Mark = true
-flag_next included k (Flag n) = eqb n 0 && not k.full
-flag_next included k (Byte n v) = eqb n 0 && (not k.full && not (not k.latch && included))
+flag_next included k (Flag n) = eqb n 0 && not (full k)
+flag_next included k (Byte n v) = eqb n 0 && (not (full k) && not (not k.latch && included))
 flag_next included k (Check n v) = eqb n 0
 flag_next included k (Abort n) = eqb n 0
 

@@ -3,85 +3,89 @@
 #![tactic(auto)]
 
 mod fitting;
-mod walk;
+mod rows;
 
-ghost use Rattle.std.specs.Prelude.{◌≡◌, length};
+ghost use Rattle.std.specs.Prelude.{◌≡◌, Ok};
 ghost use Rattle.notes.specs.NoteList.{read_list, scanned};
 ghost use Rattle.report.specs.Report.{report_of, rows_in};
 ghost use Rattle.listline.specs.ListLine.{chip_after};
 ghost use Rattle.station.specs.Station.{note_sent, send_of, list_sent, listed_of};
-ghost use Rattle.station.specs.Walk.{at_first};
 
 use crate::fitting::send_next;
-use crate::walk::Walk;
+use crate::rows::put_row;
 use chip::Chip;
 use common::Refusal;
 use flags::Between;
-use head::note_at;
 use line::note_fits;
-use notes::{Scanned, scan};
-pub use told::{Listed, Told};
+use notes::{Notes, scan};
+pub use told::{Gone, Total};
 
-// A note was sent, and the chip after it.
+// A note was sent, or why it was not, and the chip after it.
 #[derive(Clone, Copy)]
 pub struct Sent {
-    pub told: Told,
+    pub told: Result<Gone, Refusal>,
     pub chip: Chip,
 }
 
-// A list was sent, and the chip after it.
+// A list was sent, or why it is refused, and the chip after it.
 #[derive(Clone, Copy)]
 pub struct ListSent {
-    pub listed: Listed,
+    pub listed: Result<Total, Refusal>,
     pub chip: Chip,
 }
 
 // A row has four numbers: a note's number, its bytes, the zeros inserted and the ticks with both flags.
 pub const ROW: usize = 4;
 
-fn note_sent(told: Told, chip: Chip) -> Sent
+fn note_sent(told: Result<Gone, Refusal>, chip: Chip) -> Sent
     ensures { result ≡ note_sent told chip }
 {
     Sent { told, chip }
 }
 
-fn list_sent(listed: Listed, chip: Chip) -> ListSent
+fn list_sent(listed: Result<Total, Refusal>, chip: Chip) -> ListSent
     ensures { result ≡ list_sent listed chip }
 {
     ListSent { listed, chip }
 }
 
 // One note through channel A: the frame goes out behind the flag that closed the one before, or behind a flag of its own.
+#[tactic(auto, unfolding(crate::specs::Station::send_of))]
 pub fn send(c: Chip, note: &[u8]) -> Sent
     ensures { result ≡ send_of c note.now }
 {
-    if note_fits(note.len()) {
-        return send_next(c, Between::SharedFlag, 0, note);
+    if !note_fits(note.len()) {
+        return note_sent(Err(Refusal::NoteLength), c);
     }
-    note_sent(Told::Refused(Refusal::NoteLength), c)
+    let (gone, chip) = send_next(c, Between::SharedFlag, 0, note);
+    note_sent(Ok(gone), chip)
 }
 
-// The notes of a list that was scanned, behind what was sent last: each goes from the middle of the list, without a copy.
+// The notes of a list of which the scan gave so many: each goes from the middle of the list, without a copy. The rows go into the lent part, all of
+// them or, where it is too short, none.
 fn send_notes(
-    mut x: Sent,
-    s: Scanned,
-    mut w: Walk,
+    mut c: Chip,
+    all: usize,
     list: &[u8],
     rows: &mut [usize],
     between: Between,
 ) -> ListSent
-    requires s_value { s ≡ scanned (read_list list.now) }
-    requires w_value { w ≡ at_first s (length rows.old) }
-    ensures value { result ≡ list_sent (listed_of (report_of between list.now)) (chip_after between x.chip (read_list list.now)) }
+    requires { scanned (read_list list.now) ≡ Ok all }
+    ensures value { result ≡ list_sent (listed_of (report_of between list.now)) (chip_after between c (read_list list.now)) }
     ensures rows_after { rows.new ≡ rows_in rows.old (report_of between list.now) }
 {
-    while w.notes < w.all {
-        let note = note_at(list, w.at);
-        x = send_next(x.chip, between, w.notes, note);
-        let t = x.told;
-        w = w.on(rows, note, t);
+    let told = all <= rows.len() / ROW;
+    let mut notes = 0;
+    let mut sum = 0;
+    for note in Notes::of(list) {
+        let (gone, chip) = send_next(c, between, notes, note);
+        c = chip;
+        put_row(rows, told, notes, note, gone);
+        notes += 1;
+        sum += gone.ticks;
     }
-    list_sent(w.listed(s, between), x.chip)
+    let ticks = between.in_all(sum, notes);
+    list_sent(Ok(Total { notes, ticks }), c)
 }
 
 // A list through channel A: it is checked first, then its notes go, one behind the other by this choice. The rows go into the lent part, all of
@@ -90,9 +94,8 @@ pub fn send_list(c: Chip, list: &[u8], rows: &mut [usize], between: Between) -> 
     ensures value { result ≡ list_sent (listed_of (report_of between list.now)) (chip_after between c (read_list list.now)) }
     ensures rows_after { rows.new ≡ rows_in rows.old (report_of between list.now) }
 {
-    let s = scan(list);
-    let w = Walk::start(s, rows.len());
-    // nothing has gone
-    let t = Told::Gone { zeros: 0, ticks: 0 };
-    send_notes(note_sent(t, c), s, w, list, rows, between)
+    match scan(list) {
+        Ok(all) => send_notes(c, all, list, rows, between),
+        Err(k) => list_sent(Err(k), c),
+    }
 }

@@ -2,10 +2,10 @@
 #![tactic(auto)]
 
 ghost use Rattle.std.specs.Prelude.{◌≡◌};
-ghost use Rattle.status.specs.Status.{quiet_live, changed, noticed, shown_bits, afresh};
+ghost use Rattle.status.specs.Status.{unlatched, changed, noticed, shown_bits, afresh};
 
 // The five bits of RR0 that are latched together: D7 to D3.
-#[derive(Clone, Copy)]
+#[derive(Clone, Copy, PartialEq, Eq)]
 pub struct Live {
     pub abort: bool,
     pub underrun: bool,
@@ -14,47 +14,37 @@ pub struct Live {
     pub dcd: bool,
 }
 
-// External status: whether it is latched, and what it then shows.
+// External status: what is latched, and so shown; None where nothing is.
 #[derive(Clone, Copy)]
 pub struct Status {
-    pub latched: bool,
-    pub shown: Live,
+    pub latched: Option<Live>,
 }
 
 impl Live {
-    // A step from these bits to those latches.
+    // A step from these bits to those latches: any change does, but D6 falling.
     fn changed(self, is: Live) -> bool
         ensures { result ≡ changed self is }
     {
-        (self.abort != is.abort)
-            | ((!self.underrun & is.underrun)
-                | ((self.cts != is.cts) | ((self.hunt != is.hunt) | (self.dcd != is.dcd))))
-    }
-
-    // Nothing is on.
-    pub fn quiet() -> Live
-        ensures { result ≡ quiet_live }
-    {
-        Live {
-            abort: false,
-            underrun: false,
-            cts: false,
-            hunt: false,
-            dcd: false,
-        }
+        let underrun = self.underrun & is.underrun;
+        Live { underrun, ..self } != is
     }
 }
 
 impl Status {
+    // Nothing is latched.
+    pub fn unlatched() -> Status
+        ensures { result ≡ unlatched }
+    {
+        Status { latched: None }
+    }
+
     // The status rule, after a step.
+    #[tactic(auto, unfolding(crate::specs::Status::noticed))]
     pub fn noticed(self, was: Live, is: Live) -> Status
         ensures { result ≡ noticed self was is }
     {
-        if !self.latched & was.changed(is) {
-            return Status {
-                latched: true,
-                shown: is,
-            };
+        if self.latched.is_none() && was.changed(is) {
+            return Status { latched: Some(is) };
         }
         self
     }
@@ -63,23 +53,19 @@ impl Status {
     pub fn shown_bits(self, live: Live) -> Live
         ensures { result ≡ shown_bits self live }
     {
-        if self.latched {
-            return self.shown;
-        }
-        live
+        self.latched.unwrap_or(live)
     }
 
     // Reset External/Status.
+    #[tactic(auto, unfolding(crate::specs::Status::afresh))]
     pub fn afresh(self, live: Live) -> Status
         ensures { result ≡ afresh self live }
     {
-        if self.latched {
-            let shown = self.shown;
-            return Status {
-                latched: shown.changed(live),
-                shown: live,
-            };
+        match self.latched {
+            Some(shown) if shown.changed(live) => Status {
+                latched: Some(live),
+            },
+            _ => Status::unlatched(),
         }
-        self
     }
 }

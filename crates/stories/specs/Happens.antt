@@ -2,7 +2,7 @@
 -- chip by this name alone, so that a wrong chip can be put in its place: an edit of must-fail does
 -- that in the one line, and the names that wrong chips are made of are brought here for it, by pub
 -- use, which rt tidy leaves. Assumes nothing.
-pub use Rattle.std.specs.Prelude.{true, false, not, ◌&&◌, ◌/◌, eqb, if◌then◌else◌}
+pub use Rattle.std.specs.Prelude.{true, false, not, ◌&&◌, ◌/◌, eqb, if◌then◌else◌, None}
 pub use Rattle.line.specs.Bits.{odd}
 pub use Rattle.line.specs.Check.{ones}
 pub use Rattle.shared.specs.Shared.{latched, cleared, check_set}

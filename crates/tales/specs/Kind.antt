@@ -1,6 +1,7 @@
 -- What an event is, told by numbers and tests, for the making of wrong chips. Assumes nothing.
 use Rattle.std.specs.Prelude.{Bool, not, ◌&&◌, ℕ, eqb, ltb}
 use Rattle.common.specs.Mode.{same_mode}
+use Rattle.shared.specs.Shared.{full}
 use Rattle.settings.specs.Settings.{command_in, preset_in, mode_in, receiving_of}
 use Rattle.channel.specs.declared.Channel.{Channel}
 use Rattle.chip.specs.Event.{Event, HardReset, ControlWrite, ControlRead, DataWrite, DataRead}
@@ -102,7 +103,7 @@ is_change ch was e is =
 -- a tick that loaded a byte or a character of a channel
 abbrev pub is_load : ℕ → Channel → Event → Channel → Bool
 is_load ch was e is =
-    is_tick ch e && (was.sender.shared.full && not is.sender.shared.full)
+    is_tick ch e && (full was.sender.shared && not (full is.sender.shared))
 
 -- a bit that found a channel's receiver off; and one that queued an entry
 abbrev pub is_deaf : ℕ → Channel → Event → Bool

@@ -1,6 +1,6 @@
 -- A channel with one part of a part changed, for the making of wrong chips: the parts that have
 -- more fields than a wrong chip wants to name. Assumes nothing.
-use Rattle.std.specs.Prelude.{Bool, map, ℕ}
+use Rattle.std.specs.Prelude.{Bool, map, ℕ, Option}
 use Rattle.line.specs.declared.Insertion.{Insertion}
 use Rattle.entry.specs.declared.Entry.{Entry}
 use Rattle.queue.specs.Queue.{queue}
@@ -14,6 +14,7 @@ use Rattle.sdlc.specs.declared.Chars.{Chars}
 use Rattle.sdlc.specs.Hearing.{content}
 use Rattle.sender.specs.Sender.{sender, with_shared}
 use Rattle.receiver.specs.Receiver.{receiver}
+use Rattle.status.specs.declared.Live.{Live}
 use Rattle.status.specs.Status.{status}
 use Rattle.settings.specs.Settings.{store1, store3, store4, store5, store6}
 use Rattle.channel.specs.declared.Channel.{Channel}
@@ -53,20 +54,20 @@ with_character c k =
     let s = c.sender in
     with_sender c (sender s.unit s.insertion k s.block s.shared)
 
-abbrev pub with_buffer : Channel → ℕ → Bool → Channel
-with_buffer c v f =
+abbrev pub with_buffer : Channel → Option ℕ → Channel
+with_buffer c b =
     let k = c.sender.shared in
-    with_sender c (with_shared c.sender (shared v f k.latch k.check))
+    with_sender c (with_shared c.sender (shared b k.latch k.check))
 
 abbrev pub with_latch : Channel → Bool → Channel
 with_latch c l =
     let k = c.sender.shared in
-    with_sender c (with_shared c.sender (shared k.buffer k.full l k.check))
+    with_sender c (with_shared c.sender (shared k.buffer l k.check))
 
 abbrev pub with_sent_check : Channel → ℕ → Channel
 with_sent_check c x =
     let k = c.sender.shared in
-    with_sender c (with_shared c.sender (shared k.buffer k.full k.latch x))
+    with_sender c (with_shared c.sender (shared k.buffer k.latch x))
 
 -- The receiver
 
@@ -165,5 +166,5 @@ with_latches c p o =
     let q = c.queue in
     with_queue c (queue q.entries q.count p o)
 
-abbrev pub with_latched : Channel → Bool → Channel
-with_latched c l = with_status c (status l c.status.shown)
+abbrev pub with_latched : Channel → Option Live → Channel
+with_latched c l = with_status c (status l)

@@ -17,17 +17,11 @@ pub struct Tally {
 pub fn top_ones(v: u8) -> usize
     ensures { result ≡ top_ones v }
 {
-    if v < 128 {
-        return 0;
+    match v {
+        0..=127 => 0,
+        128..=191 => 1,
+        192..=223 => 2,
+        224..=239 => 3,
+        _ => 4,
     }
-    if v < 192 {
-        return 1;
-    }
-    if v < 224 {
-        return 2;
-    }
-    if v < 240 {
-        return 3;
-    }
-    4
 }

@@ -11,13 +11,14 @@ use Rattle.bytesync.specs.declared.Reception.{Reception}
 use Rattle.bytesync.specs.Hearing.{hear_block}
 use Rattle.bytesync.specs.Laws.Plain.{hear_plain}
 use Rattle.blocks.specs.Heard.{Moment, heeding, Final, final, handed, before, hear_all}
+use Rattle.channel.specs.Events.{queued}
 use Rattle.chip.specs.declared.Chip.{Chip}
 use Rattle.chip.specs.Event.{Event}
 use Rattle.stories.specs.Story.{Which, chan, happens, after}
 use Rattle.stories.specs.Received.{ToReceiver, is_read, taking, took_of}
 use Rattle.terminals.specs.Side.{Heeded, Side, side, side_of, checking_of, moment_in}
 use Rattle.terminals.specs.Side.{moments_of}
-use Rattle.history.specs.Receiving.Events.{queued_if, room_if, queue_takes}
+use Rattle.history.specs.Receiving.Events.{room_if, queue_takes}
 use Rattle.history.specs.Receiving.Stories.{over, hears, reads, still}
 use Rattle.terminals.specs.Events.{heard_side, read_side, Follows}
 use Rattle.terminals.specs.Events.{Hearing, follows}
@@ -114,10 +115,10 @@ conserved w (hears {c = c} {e = x} {st = st} {b = b} z s i) r k q h es d e m =
     let f : side_of w (happens c x).chip ≡ heard_side j b (side_of w c) =
     subst (Follows w c (happens c x).chip) z
     (follows w c x (subst Hearing (sym (ap (λ (y : Side). y.heeds) e)) d)) in
-    let space : room_if u.some q ≡ true = ap (λ (y : Side). roomy y j b) (sym e) ∙ s in
-    let n = conserved w i u.reception u.check (queued_if u.some q u.entry) h
+    let space : room_if u.entry q ≡ true = ap (λ (y : Side). roomy y j b) (sym e) ∙ s in
+    let n = conserved w i u.reception u.check (queued q u.entry) h
     (es ++ handed u) d (f ∙ ap (heard_side j b) e)
-    (queue_takes u.some u.entry m space (hear_plain (heeding g j) r k b)) in
+    (queue_takes u.entry m space (hear_plain (heeding g j) r k b)) in
     let ts = moments_of w (happens c x).chip st in
     carried n λ rest.
     ap (λ (y : ToReceiver). before es (hear_all g r k ((moment_in j y ++ ts) ++ rest))) z

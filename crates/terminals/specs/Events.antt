@@ -21,7 +21,7 @@ use Rattle.chip.specs.declared.Chip.{Chip}
 use Rattle.chip.specs.Event.{Event}
 use Rattle.stories.specs.Story.{Which, chan, happens}
 use Rattle.stories.specs.Received.{ToReceiver, Hears, Reads, Else, to_receiver, bit_in, bits_of}
-use Rattle.history.specs.Receiving.Events.{queued_if, FollowsIn, follows_in}
+use Rattle.history.specs.Receiving.Events.{FollowsIn, follows_in}
 use Rattle.history.specs.Receiving.Side.{receiving_in}
 use Rattle.terminals.specs.Side.{Heeded, heeded, Side, side, part, side_in, side_of}
 use Rattle.terminals.specs.Side.{checking_of, moment_in, moments_of}
@@ -40,7 +40,7 @@ matched_by i b x = hear_block (heeding x.heeds.matching i) x.reception x.check b
 abbrev pub heard_side : Bool → Bool → Side → Side
 heard_side i b x =
     let h = matched_by i b x in
-    side h.reception h.check (queued_if h.some x.queue h.entry) x.heeds
+    side h.reception h.check (queued x.queue h.entry) x.heeds
 
 abbrev pub read_side : Side → Side
 read_side x = side x.reception x.check (taken x.queue) x.heeds
@@ -61,7 +61,7 @@ unfolding receive_tick settled
 heard_in_lem c b h =
     let g = receiving_in c in
     ap (λ (x : Heard).
-    side x.receiver.reception x.receiver.check (queued c.queue x) (heeded g))
+    side x.receiver.reception x.receiver.check (queued c.queue x.entry) (heeded g))
     (hear_blocks g c.receiver b h.mode h.on)
 
 pub follows : (w : Which) (c : Chip) (e : Event) → Hearing (side_of w c).heeds

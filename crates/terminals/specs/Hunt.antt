@@ -1,5 +1,6 @@
 -- Enter Hunt in Monosync and Bisync: the search starts again, and RR0 D4 shows it. Assumes nothing.
-use Rattle.std.specs.Prelude.{◌≡◌, refl, Bool, true, false, ◌&&◌, ◌||◌, ℕ, eqb, if◌then◌else◌}
+use Rattle.std.specs.Prelude.{◌≡◌, refl, Bool, true, false, ◌&&◌, ◌||◌, ℕ, eqb, if◌then◌else◌, Option, None, is_some}
+use Rattle.std.specs.Option.{unwrap_or}
 use Rattle.std.proofs.Common.{ap, ◌∙◌}
 use Rattle.common.specs.Mode.{in_sdlc, in_blocks, of_blocks, synchronous}
 use Rattle.common.specs.Tools.{if_elim}
@@ -22,13 +23,13 @@ use Rattle.terminals.specs.Statement.{HuntBegun, HuntAgain}
 use Rattle.terminals.specs.Shown.{d4_is}
 
 -- hunt as it now is shows, unless status was latched
-unlatched_shows : (s : Status) (was is : Live) → s.latched ≡ false → is.hunt ≡ true
+unlatched_shows : (s : Status) (was is : Live) → s.latched ≡ None → is.hunt ≡ true
     → (shown_bits (noticed s was is) is).hunt ≡ true
 unfolding noticed
 unlatched_shows s was is n h =
     let p : (shown_bits s is).hunt ≡ true =
-    ap (λ (b : Bool). (if b then s.shown else is).hunt) n ∙ h in
-    if_elim (λ (x : Status). (shown_bits x is).hunt ≡ true) s.latched p
+    ap (λ (o : Option Live). (unwrap_or o is).hunt) n ∙ h in
+    if_elim (λ (x : Status). (shown_bits x is).hunt ≡ true) (is_some s.latched) p
     (if_elim (λ (x : Status). (shown_bits x is).hunt ≡ true) (changed was is) h p)
 
 blocks_synchronous : (m : Mode) → in_blocks m ≡ true → synchronous m ≡ true
@@ -69,7 +70,7 @@ unfolding live_of receiving_of
 hunt_live c v m = hunts (mode_in c.registers) m
 
 shown_in : (c : Channel) (v : ℕ) → in_blocks (mode_in c.registers) ≡ true
-    → c.status.latched ≡ false → let d = with_pointer (settled c (hunt_in c v)) 0 in
+    → c.status.latched ≡ None → let d = with_pointer (settled c (hunt_in c v)) 0 in
     (shown_bits d.status (live_of d)).hunt ≡ true
 unfolding settled live_of
 shown_in c v m n =

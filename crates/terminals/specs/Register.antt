@@ -1,5 +1,5 @@
 -- The receive check of a chip in Monosync or Bisync, at every moment. Assumes nothing.
-use Rattle.std.specs.Prelude.{◌≡◌, Bool, true, List, [], ◌∷◌, ℕ, if◌then◌else◌}
+use Rattle.std.specs.Prelude.{None, ◌≡◌, Bool, true, List, [], ◌∷◌, ℕ, if◌then◌else◌}
 use Rattle.std.proofs.Math.Path.{refl}
 use Rattle.std.proofs.Common.{sym, ap, ap₂, ◌∙◌, subst}
 use Rattle.std.proofs.Math.Bool.{false}
@@ -63,18 +63,18 @@ quiet_tale_lem w c d Else e = refl
 quiet_steady : (h : Bool) (r : Reception) (ts : List Tale) → r.hunt ≡ h
     → Steady r (quiet_tale h ∷ ts)
 unfolding entrants_of
-quiet_steady true r ts e = λ k g x. refl
+quiet_steady true r ts e = λ k h. refl
 quiet_steady false r ts e = λ k. void (sym e ∙ k)
 
 tale_steady : (w : Which) (c d : Chip) (b : Bool) (ts : List Tale)
     → Steady (reception_of w c) (tale_of w c d (Hears b) ∷ ts)
-tale_steady w c d b ts k h x = go (receiving_in (chan w c)).on
+tale_steady w c d b ts k h = go (receiving_in (chan w c)).on
   where
     go : (o : Bool)
         → let g = receiving_in (chan w c) in
         let t = told (reception_of w c) (register.Hears g.matching b) in
-        entrants_of h x ((if o then t else Hunt) ∷ ts)
-        ≡ entrants_of false 0 ((if o then t else Hunt) ∷ ts)
+        entrants_of h ((if o then t else Hunt) ∷ ts)
+        ≡ entrants_of None ((if o then t else Hunt) ∷ ts)
     go true = unfold entrants_of in rw k
     go false = unfold entrants_of in refl
 
@@ -82,7 +82,7 @@ tale_steady w c d b ts k h x = go (receiving_in (chan w c)).on
 steady : (w : Which) {c : Chip} {st : List Event} → Since w c st
     → Steady (reception_of w c) (tales_of w c st)
 unfolding tales_of entrants_of
-steady w over = λ k h x. refl
+steady w over = λ k h. refl
 steady w (hears {c = c} {e = e} {st = st} {b = b} z m i) =
     let d = (happens c e).chip in
     subst (λ (r : ToReceiver). Steady (reception_of w c) (tale_of w c d r ∷ tales_of w d st)) (sym z)
@@ -92,7 +92,7 @@ steady w (searches {c = c} {e = e} {st = st} z r k i) =
     let t : tale_of w c d (to_receiver w e) ≡ Hunt =
     quiet_tale_lem w c d (to_receiver w e) z ∙ ap (λ (x : Reception). quiet_tale x.hunt) r in
     subst (λ (x : Tale). Steady (reception_of w c) (x ∷ tales_of w d st)) (sym t)
-    (λ k h x. refl)
+    (λ k h. refl)
 steady w (still {c = c} {e = e} {st = st} z r k i) =
     let d = (happens c e).chip in
     let t : tale_of w c d (to_receiver w e) ≡ quiet_tale (reception_of w c).hunt =
@@ -102,7 +102,7 @@ steady w (still {c = c} {e = e} {st = st} z r k i) =
 
 -- what enters from here on
 abbrev Enters : Reception → ℕ → List Tale → ℕ
-Enters r k ts = check_through k (entrants_of r.block.have r.block.held ts)
+Enters r k ts = check_through k (entrants_of r.block.held ts)
 
 -- hunt: nothing waits
 hunt_enters : (r : Reception) (k : ℕ) (ts : List Tale)
@@ -142,7 +142,7 @@ tick_enters w c d b ts m e s =
 quiet_enters : (h : Bool) (r : Reception) (k : ℕ) (ts : List Tale) → r.hunt ≡ h → Steady r ts
     → Enters r k ts ≡ Enters r k (quiet_tale h ∷ ts)
 unfolding entrants_of
-quiet_enters true r k ts e s = ap (check_through k) (s e r.block.have r.block.held)
+quiet_enters true r k ts e s = ap (check_through k) (s e r.block.held)
 quiet_enters false r k ts e s = refl
 
 story_enters : (w : Which) {c : Chip} {st : List Event} → Since w c st

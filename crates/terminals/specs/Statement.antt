@@ -1,6 +1,6 @@
 -- Demand 2 for Monosync and Bisync, over stories in which everything else may happen too, for
 -- either channel of any chip and both polynomials. Proofs: Demand, Register, Hunt. Assumes nothing.
-use Rattle.std.specs.Prelude.{◌≡◌, ◌≢◌, Bool, true, false, not, List, [], ◌∷◌, ◌++◌, ℕ, ◌+◌, ◌/◌, ◌<◌, length, if◌then◌else◌}
+use Rattle.std.specs.Prelude.{None, ◌≡◌, ◌≢◌, Bool, true, false, not, List, [], ◌∷◌, ◌++◌, ℕ, ◌+◌, ◌/◌, ◌<◌, length, if◌then◌else◌}
 use Rattle.common.specs.Mode.{in_blocks}
 use Rattle.line.specs.Bits.{odd, text_bits, Below}
 use Rattle.shared.specs.Preset.{zeros}
@@ -48,7 +48,7 @@ pub record Listening (x : Side) : Type 0 where
 abbrev pub roomy : Side → Bool → Bool → Bool
 roomy x i b =
     let h = hear_block (heeding x.heeds.matching i) x.reception x.check b in
-    room_if h.some x.queue
+    room_if h.entry x.queue
 
 abbrev pub Fed : Which → Chip → List Event → Type 0
 Fed w c st = HearsWhere (side_of w) (λ d b. roomy (side_of w d) (checking_of w d) b ≡ true) w c st
@@ -151,16 +151,16 @@ tales_of w c (e ∷ st) = let d = (happens c e).chip in tale_of w c d (to_receiv
 abbrev pub RegisterIs : Type 0
 RegisterIs =
     (w : Which) (c : Chip) (st : List Event) → Since w c st
-    → let d = (reception_of w c).block in
-    check_of w (after c st)
-    ≡ check_through (check_of w c) (entrants_of d.have d.held (tales_of w c st))
+    → check_of w (after c st)
+    ≡ check_through (check_of w c)
+    (entrants_of (reception_of w c).block.held (tales_of w c st))
 
 -- over one polynomial and from a preset in hunt: the check of the bytes that entered
 abbrev pub RegisterSincePreset : Type 0
 RegisterSincePreset =
     (w : Which) (c : Chip) (st : List Event) (p : ℕ) (vs : List ℕ)
     → reception_of w c ≡ searching true
-    → check_of w c ≡ zeros → Since w c st → entrants_of false 0 (tales_of w c st) ≡ all_over p vs
+    → check_of w c ≡ zeros → Since w c st → entrants_of None (tales_of w c st) ≡ all_over p vs
     → check_of w (after c st) ≡ check_from p zeros vs
 
 -- RR0 D4
@@ -173,7 +173,7 @@ pub record HuntBegun (w : Which) (c d : Chip) : Type 0 where
   pub begun : reception_of w d ≡ searching true
   pub check : check_of w d ≡ check_of w c
   pub queue : (chan w d).queue ≡ (chan w c).queue
-  pub shown : (chan w c).status.latched ≡ false → d4 w d ≡ true
+  pub shown : (chan w c).status.latched ≡ None → d4 w d ≡ true
 
 abbrev pub HuntAgain : Type 0
 HuntAgain =

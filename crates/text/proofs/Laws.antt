@@ -1,21 +1,21 @@
--- Bytes are put a byte at a time, up to their end. Assumes nothing.
-use Prim.Native.Nat.{ℕ, zero, suc, ◌+◌, ◌<◌, ◌≤◌}
-use mathlib.Core.Path.{◌≡◌, refl}
-use mathlib.Core.List.{List, [], ◌∷◌}
-use native.Mathlib.Omega.{arith}
-use native.Mathlib.Numerals.{add-one}
-use lib.ListN.{length, get_or, drop}
-use lib.Seq.{drop-cons}
+-- A number's digits, put from the first on: the last is put behind the others, where there are others. Assumes nothing.
+use Rattle.std.proofs.Common.{◌≡◌, refl, ◌≢◌, ℕ, zero, suc, ◌-◌, ◌/◌, ◌<◌, ◌≤◌, arith, sub-one, lt-ltb, le-ltb}
+use Rattle.std.proofs.lemmas.Grind.{fold-append}
 use Rattle.text.specs.declared.Line.{Line}
-use Rattle.text.specs.Text.{with, with_all}
+use Rattle.text.specs.Text.{with, with_all, digit_of, decimal}
 
-pub with_all_step : (l : Line) (s : List ℕ) (i : ℕ) → i < length s → with_all l (drop i s) ≡ with_all (with l (get_or s i 0)) (drop (i + 1) s)
-unfolding with_all
-with_all_step l s i h = rw (drop-cons s i 0 h, add-one)
+pub decimal_none : (l : Line) (n v : ℕ) → n ≡ 0 → with_all l (decimal n v) ≡ l
+unfolding decimal
+decimal_none l zero v e = refl
+decimal_none l (suc n) v e = absurd (omega arith)
 
-pub with_all_none : (l : Line) (s : List ℕ) (i : ℕ) → length s ≤ i → with_all l (drop i s) ≡ l
-unfolding with_all
-with_all_none l [] zero h = refl
-with_all_none l [] (suc i) h = refl
-with_all_none l (x ∷ s) zero h = absurd (omega arith)
-with_all_none l (x ∷ s) (suc i) h = with_all_none l s i (omega arith)
+pub decimal_one : (l : Line) (n v : ℕ) → n ≢ 0 → v < 10 → with_all l (decimal n v) ≡ with l (digit_of v)
+unfolding decimal
+decimal_one l zero v e h = absurd (e refl)
+decimal_one l (suc n) v e h = rw (lt-ltb v 10 h)
+
+pub decimal_more : (l : Line) (n v : ℕ) → n ≢ 0 → 10 ≤ v
+    → with_all l (decimal n v) ≡ with (with_all l (decimal (n - 1) (v / 10))) (digit_of v)
+unfolding decimal
+decimal_more l zero v e h = absurd (e refl)
+decimal_more l (suc n) v e h = rw (le-ltb v 10 h, sub-one, fold-append)

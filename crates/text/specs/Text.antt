@@ -1,5 +1,6 @@
 -- A line of text, put together byte by byte. Assumes nothing.
-use Rattle.std.specs.Prelude.{List, [], ◌∷◌, ℕ, ◌+◌, ◌/◌, ◌%◌, ltb, set, replicate, if◌then◌else◌}
+use Rattle.std.specs.Prelude.{List, [], ◌∷◌, ◌++◌, ℕ, zero, suc, ◌+◌, ◌/◌, ◌%◌, ltb, set, replicate, if◌then◌else◌}
+use Rattle.std.specs.List.{fold}
 use Rattle.text.specs.declared.Line.{Line}
 
 -- in ASCII
@@ -23,25 +24,19 @@ empty_line = line (replicate longest 0) 0
 unfoldable pub with : Line → ℕ → Line
 with l v = if ltb l.size longest then line (set l.text l.size v) (l.size + 1) else l
 
-unfoldable pub with_all : Line → List ℕ → Line
-with_all l [] = l
-with_all l (v ∷ rest) = with_all (with l v) rest
+-- bytes, each likewise
+abbrev pub with_all : Line → List ℕ → Line
+with_all l bytes = fold with l bytes
 
 -- the last digit of a number, in ASCII
 abbrev pub digit_of : ℕ → ℕ
 digit_of v = 48 + v % 10
 
--- a number in decimals, the last five where it has more
-unfoldable pub decimal : ℕ → List ℕ
-decimal v =
-    if ltb v 10 then digit_of v ∷ []
-    else (if ltb v 100 then digit_of (v / 10) ∷ digit_of v ∷ []
-    else (if ltb v 1000 then digit_of (v / 100) ∷ digit_of (v / 10) ∷ digit_of v ∷ []
-    else (if ltb v 10000 then digit_of (v / 1000) ∷ digit_of (v / 100) ∷ digit_of
-    (v / 10) ∷ digit_of v ∷ []
-    else digit_of (v / 10000) ∷ digit_of (v / 1000) ∷ digit_of (v / 100) ∷ digit_of
-    (v / 10) ∷ digit_of v ∷ [])))
+-- a number in decimals, its last digits, so many, where it has more
+unfoldable pub decimal : ℕ → ℕ → List ℕ
+decimal zero v = []
+decimal (suc n) v = (if ltb v 10 then [] else decimal n (v / 10)) ++ (digit_of v ∷ [])
 
--- and the byte behind it
+-- the last five, and the byte behind it
 abbrev pub numbered : Line → ℕ → ℕ → Line
-numbered l v end = with (with_all l (decimal v)) end
+numbered l v end = with (with_all l (decimal 5 v)) end

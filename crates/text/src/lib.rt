@@ -2,12 +2,12 @@
 #![tactic(auto)]
 
 ghost use Rattle.std.specs.Prelude.{◌≡◌};
-ghost use Rattle.text.specs.Text.{empty_line, with, with_all, digit_of, decimal, numbered};
+ghost use Rattle.text.specs.Text.{empty_line, with, with_all, decimal, numbered};
 
 // A line has at most this many bytes: seven numbers of three digits, six spaces and a newline.
 pub const LONGEST: usize = 28;
 
-// A line: its bytes, and how many of them count.
+// A line: its bytes, and how many of them count. Memory is fixed, so it is no String.
 #[derive(Clone, Copy)]
 pub struct Line {
     pub text: [u8; LONGEST],
@@ -25,70 +25,43 @@ impl Line {
     }
 
     // A byte more, where there is room for it.
-    pub fn with(self, v: u8) -> Line
+    #[tactic(auto, unfolding(crate::specs::Text::with))]
+    pub fn with(mut self, v: u8) -> Line
         ensures { result ≡ with self v }
     {
-        let mut l = self;
-        let at = self.size;
-        if at < LONGEST {
-            l.text[at] = v;
-            l.size = at + 1;
-            return l;
+        if self.size < LONGEST {
+            self.text[self.size] = v;
+            self.size += 1;
         }
-        l
+        self
     }
 
     // Bytes, each likewise.
     pub fn with_all(self, bytes: &[u8]) -> Line
         ensures { result ≡ with_all self bytes.now }
     {
-        let mut l = self;
-        let mut i = 0;
-        while i < bytes.len() {
-            l = l.with(bytes[i]);
-            i = i + 1;
-        }
-        l
+        bytes.iter().fold(self, |l, v| l.with(*v))
     }
 
-    // The last digit of a number.
-    fn with_digit(self, v: usize) -> Line
-        ensures { result ≡ with self (digit_of v) }
+    // A number, its last digits, so many, where it has more.
+    fn with_digits(self, v: usize, digits: u8) -> Line
+        ensures { result ≡ with_all self (decimal digits v) }
     {
-        self.with(b'0' + (v % 10) as u8)
+        if digits == 0 {
+            return self;
+        }
+        let l = if v < 10 {
+            self
+        } else {
+            self.with_digits(v / 10, digits - 1)
+        };
+        l.with(b'0' + (v % 10) as u8)
     }
 
-    // A number, its last five digits where it has more.
-    fn with_digits(self, v: usize) -> Line
-        ensures { result ≡ with_all self (decimal v) }
-    {
-        if v < 10 {
-            return self.with_digit(v);
-        }
-        if v < 100 {
-            return self.with_digit(v / 10).with_digit(v);
-        }
-        if v < 1000 {
-            return self.with_digit(v / 100).with_digit(v / 10).with_digit(v);
-        }
-        if v < 10000 {
-            return self
-                .with_digit(v / 1000)
-                .with_digit(v / 100)
-                .with_digit(v / 10)
-                .with_digit(v);
-        }
-        self.with_digit(v / 10000)
-            .with_digit(v / 1000)
-            .with_digit(v / 100)
-            .with_digit(v / 10)
-            .with_digit(v)
-    }
-
-    // A number, and the byte behind it.
+    // A number, its last five digits where it has more, and the byte behind it.
     pub fn with_number(self, v: usize, end: u8) -> Line
         ensures { result ≡ numbered self v end }
     {
-        self.with_digits(v).with(end)
+        self.with_digits(v, 5).with(end)
     }
 }

@@ -1,6 +1,7 @@
 -- Demand 3's start, in its own words, and what a chip with a history has of it. Assumes nothing.
 use Rattle.std.specs.Prelude.{◌≡◌, false, ℕ, ◌-◌, ◌≤◌}
 use Rattle.line.specs.Check.{ones}
+use Rattle.shared.specs.Laws.Buffer.{buffer_empty}
 use Rattle.sdlc.specs.declared.LineUnit.TheVariants.{Flag}
 use Rattle.sdlc.specs.Sound.{SoundUnit}
 use Rattle.sender.specs.Good.{Good}
@@ -45,11 +46,11 @@ start_of w c p h some inside flag empty preset cleared settings = record {
 
 -- the demand's words are the state at the start
 pub start_side : (w : Which) (c : Chip) (p : ℕ) → Start w c p
-    → side_of w c ≡ side (started p (chan w c).sender.shared.buffer) good
+    → side_of w c ≡ side (started p) good
 start_side w c p b =
     let x = (chan w c).sender in
     let k = x.shared in
     let q : SoundUnit (Flag (8 - p)) x.insertion = rw b.flag at b.history in
     let h = good_heeded (sending_in (chan w c)) b.settings in
     λ i. side (framer (b.flag i) (insertion (q.0.0 i) (q.0.1 i))
-    (shared k.buffer (b.empty i) (b.cleared i) (b.preset i))) (h i)
+    (shared (buffer_empty k b.empty i) (b.cleared i) (b.preset i))) (h i)

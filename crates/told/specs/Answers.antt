@@ -1,34 +1,23 @@
 -- 01, What to write where: "When an answer is an enum, a definition gives this paper's number and
--- values for each of its cases." Of a note and of a list that were sent. Assumes nothing.
-use Rattle.std.specs.Prelude.{ℕ}
-use Rattle.common.specs.Refusal.{number_of}
-use Rattle.told.specs.declared.Told.{Told}
-use Rattle.told.specs.declared.Told.TheVariants as told
-use Rattle.told.specs.declared.Listed.{Listed}
-use Rattle.told.specs.declared.Listed.TheVariants as listed
+-- values for each of its cases." Of a note and of a list that were sent; the number is `number_in`.
+-- Assumes nothing.
+use Rattle.std.specs.Prelude.{ℕ, Result, Ok, Err}
+use Rattle.common.specs.declared.Refusal.{Refusal}
+use Rattle.told.specs.declared.Gone.{Gone}
+use Rattle.told.specs.declared.Total.{Total}
 
-abbrev pub told_number : Told → ℕ
-told_number (told.Gone z t) = 0
-told_number (told.Refused k) = number_of k
+abbrev pub told_zeros : Result Gone Refusal → ℕ
+told_zeros (Ok gone) = gone.zeros
+told_zeros (Err k) = 0
 
--- zeros inserted, ticks with both flags
-abbrev pub told_zeros : Told → ℕ
-told_zeros (told.Gone z t) = z
-told_zeros (told.Refused k) = 0
+abbrev pub told_ticks : Result Gone Refusal → ℕ
+told_ticks (Ok gone) = gone.ticks
+told_ticks (Err k) = 0
 
-abbrev pub told_ticks : Told → ℕ
-told_ticks (told.Gone z t) = t
-told_ticks (told.Refused k) = 0
+abbrev pub listed_notes : Result Total Refusal → ℕ
+listed_notes (Ok total) = total.notes
+listed_notes (Err k) = 0
 
-abbrev pub listed_number : Listed → ℕ
-listed_number (listed.All n t) = 0
-listed_number (listed.Refused k) = number_of k
-
--- notes, ticks in all
-abbrev pub listed_notes : Listed → ℕ
-listed_notes (listed.All n t) = n
-listed_notes (listed.Refused k) = 0
-
-abbrev pub listed_ticks : Listed → ℕ
-listed_ticks (listed.All n t) = t
-listed_ticks (listed.Refused k) = 0
+abbrev pub listed_ticks : Result Total Refusal → ℕ
+listed_ticks (Ok total) = total.ticks
+listed_ticks (Err k) = 0

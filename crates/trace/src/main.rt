@@ -7,18 +7,12 @@ use intake::read_full;
 use std::io;
 use text::Line;
 
-// So many bytes are printed.
-fn say(rt: &impl Print, bytes: &[u8], n: usize) -> io::Result<()> {
-    if n <= bytes.len() {
-        return rt.write_all(&bytes[0..n]);
-    }
-    Ok(())
-}
-
 // A line is printed.
-fn say_line(rt: &impl Print, l: Line) -> io::Result<()> {
-    let text = l.text;
-    say(rt, &text, l.size)
+fn say(rt: &impl Print, l: Line) -> io::Result<()> {
+    match l.text.get(..l.size) {
+        Some(bytes) => rt.write_all(bytes),
+        None => Ok(()),
+    }
 }
 
 // More lines than a run can have.
@@ -27,16 +21,14 @@ const LINES: u16 = 20000;
 fn play(rt: &impl Print, events: &[u8]) -> io::Result<()> {
     let mut chip = Chip::reset();
     let mut at = 0;
-    let mut left = LINES;
-    while 0 < left {
+    for _ in 0..LINES {
         let t = events::next(chip, events, at);
         if t.line.size == 0 {
             return Ok(());
         }
-        say_line(rt, t.line)?;
+        say(rt, t.line)?;
         chip = t.chip;
         at = t.at;
-        left = left - 1;
     }
     Ok(())
 }

@@ -1,10 +1,11 @@
-// 01, Interrupts: the vector of a source, and what an acknowledge answers. The source's level is crate interrupts' number for it. Assumes nothing.
+// 01, Interrupts: the vector of a source, and what an acknowledge answers. Assumes nothing.
 #![tactic(auto)]
 
-ghost use Rattle.std.specs.Prelude.{◌≡◌};
+ghost use Rattle.std.specs.Prelude.{◌≡◌, ◌≤◌};
 ghost use Rattle.vector.specs.Vector.{code_of, vector_of, acked_number, acked_value};
 
 use common::Refusal;
+use interrupts::Source;
 
 // Whether A's receive is special, and B's.
 #[derive(Clone, Copy)]
@@ -13,47 +14,42 @@ pub struct Special {
     pub b: bool,
 }
 
-// What an acknowledge answers: a vector, or refusal 4.
+// What an acknowledge answers: a vector, or refusal 4; an enum with a case for each and no Result, as document 01 asks.
 #[derive(Clone, Copy)]
 pub enum Acked {
     Vector(u8),
     NothingWaits,
 }
 
-// The vector's bits 3-1 for a level.
+// The vector's bits 3-1 for a source, or for none.
 #[tactic(auto, unfolding(crate::specs::Vector::code_of))]
-fn code(level: u8, special: Special) -> u8
-    ensures { result ≡ code_of level special }
+fn code(source: Option<Source>, special: Special) -> u8
+    ensures value { result ≡ code_of source special }
+    ensures upper_bound { result ≤ 7 }
 {
-    match level {
-        0 => {
-            if special.a {
-                return 7;
-            }
-            6
-        }
-        1 => 4,
-        2 => 5,
-        3 => {
-            if special.b {
-                return 3;
-            }
-            2
-        }
-        4 => 0,
-        5 => 1,
-        _ => 3,
+    match source {
+        Some(Source::AReceive) if special.a => 7,
+        Some(Source::AReceive) => 6,
+        Some(Source::ATransmit) => 4,
+        Some(Source::AExternal) => 5,
+        Some(Source::BReceive) if special.b => 3,
+        Some(Source::BReceive) => 2,
+        Some(Source::BTransmit) => 0,
+        Some(Source::BExternal) => 1,
+        None => 3,
     }
 }
 
-// The vector for a level, of this WR2; status affects it or not.
-pub fn vector(wr2: u8, affected: bool, level: u8, special: Special) -> u8
-    ensures { result ≡ vector_of wr2 affected level special }
+// The vector for a source, of this WR2; status affects it or not.
+#[tactic(auto, unfolding(crate::specs::Vector::vector_of))]
+pub fn vector(wr2: u8, affected: bool, source: Option<Source>, special: Special) -> u8
+    ensures { result ≡ vector_of wr2 affected source special }
 {
     if affected {
-        return wr2 / 16 * 16 + code(level, special) % 8 * 2 + wr2 % 2;
+        wr2 / 16 * 16 + code(source, special) * 2 + wr2 % 2
+    } else {
+        wr2
     }
-    wr2
 }
 
 impl Acked {

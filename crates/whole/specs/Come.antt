@@ -10,7 +10,7 @@ use Rattle.line.specs.Insertion.{zero_if, stuff}
 use Rattle.line.specs.Frame.{flag_bits}
 use Rattle.line.specs.declared.Insertion.{Insertion}
 use Rattle.shared.specs.declared.Shared.{Shared}
-use Rattle.shared.specs.Shared.{filled}
+use Rattle.shared.specs.Shared.{full, waiting_byte, filled}
 use Rattle.sdlc.specs.declared.LineUnit.{LineUnit}
 use Rattle.sdlc.specs.declared.LineUnit.TheVariants.{Mark, Flag, Byte, Check, Abort}
 use Rattle.sdlc.specs.declared.Framing.{Framing}
@@ -28,7 +28,7 @@ flag_tail (suc n) = flag_bit (suc n) ∷ flag_tail n
 
 -- the byte in the buffer, if there is one, goes before those that are still to be written
 abbrev pub waiting : Shared → List ℕ → List ℕ
-waiting k rest = if k.full then k.buffer ∷ rest else rest
+waiting k rest = if full k then waiting_byte k ∷ rest else rest
 
 -- content behind a run of ones and from a register on: the bits that are left of a byte, then whole
 -- bytes and the check; then the closing flag

@@ -1,9 +1,8 @@
 -- What an SDLC receiver hears over a stream of bits: where it ends and what it has handed over;
 -- flags on the line, whatever receiver listens; end marks among entries. Assumes nothing.
-use Rattle.std.specs.Prelude.{◌≡◌, Bool, true, false, not, ◌&&◌, List, [], ◌∷◌, ◌++◌, ℕ, ◌+◌, eqb, replicate}
+use Rattle.std.specs.Prelude.{option_to_list, ◌≡◌, Bool, true, false, not, ◌&&◌, List, [], ◌∷◌, ◌++◌, ℕ, ◌+◌, eqb, replicate}
 use Rattle.line.specs.Bits.{one_if}
 use Rattle.entry.specs.declared.Entry.{Entry}
-use Rattle.queue.specs.Holding.{entry_if}
 use Rattle.sdlc.specs.declared.Addressing.{Addressing}
 use Rattle.sdlc.specs.declared.Listener.{Listener}
 use Rattle.sdlc.specs.declared.Listened.{Listened}
@@ -12,7 +11,7 @@ use Rattle.sdlc.specs.Within.{ones_after}
 
 -- what a tick hands over: an entry or none
 abbrev pub handed : Listened → List Entry
-handed h = entry_if h.some h.entry
+handed h = option_to_list h.entry
 
 -- the receiver behind a stream, and the entries that it handed over on the way
 pub record Final : Type 0 where

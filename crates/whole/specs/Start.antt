@@ -1,6 +1,6 @@
 -- A frame from end to end: where demand 3 starts, the bits of the opening flag that are sent there,
 -- and when the closing flag has ended. Assumes nothing.
-use Rattle.std.specs.Prelude.{Bool, false, ◌&&◌, List, ℕ, ◌-◌, eqb, take}
+use Rattle.std.specs.Prelude.{Bool, false, None, ◌&&◌, List, ℕ, ◌-◌, eqb, take}
 use Rattle.line.specs.Check.{ones}
 use Rattle.line.specs.Frame.{flag_bits}
 use Rattle.shared.specs.Shared.{shared}
@@ -10,9 +10,9 @@ use Rattle.sdlc.specs.declared.Framer.{Framer}
 use Rattle.sdlc.specs.Sending.{not_counted, framer}
 
 -- "Start during a flag", p of its bits sent: "buffer empty, check preset to ones .., underrun latch
--- cleared". The buffer's old byte is b
-abbrev pub started : ℕ → ℕ → Framer
-started p b = framer (Flag (8 - p)) not_counted (shared b false false ones)
+-- cleared"
+abbrev pub started : ℕ → Framer
+started p = framer (Flag (8 - p)) not_counted (shared None false ones)
 
 -- the bits of that flag that are sent
 abbrev pub flag_head : ℕ → List Bool

@@ -8,9 +8,7 @@ ghost use Rattle.writer.specs.Writer.{write_of, buffer_after};
 
 use common::Refusal;
 use layout::lay_frame;
-use line::note_fits;
-use pen::room_from;
-use zeros::{Counted, lacks_room};
+use zeros::line_fits;
 
 // The frame from the start of what is lent, where there is room for it; gives the zeros inserted.
 fn lay_line(out: &mut [u8], note: &[u8]) -> usize
@@ -22,15 +20,10 @@ fn lay_line(out: &mut [u8], note: &[u8]) -> usize
 }
 
 // The note's frame, one bit per byte, at a place inside the caller's buffer.
-pub fn write_line(note: &[u8], out: &mut [u8], at: usize) -> Counted
+pub fn write_line(note: &[u8], out: &mut [u8], at: usize) -> Result<usize, Refusal>
     ensures value { result ≡ write_of note.now out.old at }
     ensures out_after { out.new ≡ buffer_after (write_of note.now out.old at) (frame note.now) out.old at }
 {
-    if note_fits(note.len()) {
-        if lacks_room(note, room_from(out.len(), at)) {
-            return Counted::Refused(Refusal::NoRoom);
-        }
-        return Counted::Zeros(lay_line(&mut out[at..], note));
-    }
-    Counted::Refused(Refusal::NoteLength)
+    line_fits(note, out.len().saturating_sub(at))?;
+    Ok(lay_line(&mut out[at..], note))
 }

@@ -1,5 +1,5 @@
 -- Wrong chips that do not tell the tales of Latching: latched status. Assumes nothing.
-use Rattle.std.specs.Prelude.{refl, false, not, ◌&&◌, if◌then◌else◌}
+use Rattle.std.specs.Prelude.{refl, false, not, ◌&&◌, if◌then◌else◌, None}
 use Rattle.channel.specs.Channel.{with_status}
 use Rattle.tales.specs.Tale.{Happens, telling}
 use Rattle.tales.specs.Kind.{is_lines, is_command}
@@ -35,7 +35,7 @@ hunt_ends_unlatched_refused t = other_number t.hunt_ends refl
 -- Reset External/Status unlatches even if a bit has changed
 abbrev reset_status_never_latches_again : Happens
 reset_status_never_latches_again =
-    but_a (λ was e is. if is_command 0 2 was e then with_latched is false else is)
+    but_a (λ was e is. if is_command 0 2 was e then with_latched is None else is)
 
 pub reset_status_never_latches_again_refused : Told reset_status_never_latches_again → ⊥
 unfolding telling

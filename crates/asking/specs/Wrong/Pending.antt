@@ -1,6 +1,6 @@
 -- Wrong chips that do not tell the tales of Pending: which sources are pending. Assumes nothing.
 use Rattle.std.specs.Prelude.{refl, true, false, not, ◌&&◌, eqb, if◌then◌else◌}
-use Rattle.settings.specs.Settings.{receive_mode}
+use Rattle.settings.specs.Settings.{receive_field}
 use Rattle.channel.specs.Channel.{with_armed, with_transmit}
 use Rattle.tales.specs.Tale.{Happens, telling}
 use Rattle.tales.specs.Kind.{is_load, is_read, is_take, is_write}
@@ -21,7 +21,7 @@ data_read_does_not_disarm_refused t = other_number t.disarmed refl
 abbrev special_wants_arming : Happens
 special_wants_arming =
     first_a (λ a e.
-    if is_read 0 e && (eqb (receive_mode a.registers.wr1) 1 && not a.armed)
+    if is_read 0 e && (eqb (receive_field a.registers.wr1) 1 && not a.armed)
     then with_wr1 a 0
     else a)
 

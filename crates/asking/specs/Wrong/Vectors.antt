@@ -1,8 +1,8 @@
 -- Wrong chips that do not tell the tales of Vectors: priority, vectors, RR2 and RR0 D1. Assumes
 -- nothing.
-use Rattle.std.specs.Prelude.{refl, false, not, ◌&&◌, ◌+◌, ◌-◌, eqb, if◌then◌else◌}
+use Rattle.std.specs.Prelude.{refl, false, not, ◌&&◌, ◌+◌, ◌-◌, eqb, if◌then◌else◌, None}
 use Rattle.interrupts.specs.Interrupts.{may_take}
-use Rattle.settings.specs.Settings.{receive_mode}
+use Rattle.settings.specs.Settings.{receive_field}
 use Rattle.channel.specs.declared.Answer.TheVariants.{Gave}
 use Rattle.channel.specs.Answer.{answer_value}
 use Rattle.channel.specs.Events.{pending_in}
@@ -28,7 +28,7 @@ rr2_is_read_in_a_refused t = other_number t.no_rr2_in_a refl
 abbrev b_receive_above_a_external : Happens
 b_receive_above_a_external c e =
     if is_acknowledge e && (pending_in c.b).receive
-    then step (with_a c (with_latched c.a false)) e
+    then step (with_a c (with_latched c.a None)) e
     else step c e
 
 pub b_receive_above_a_external_refused : Told b_receive_above_a_external → ⊥
@@ -58,7 +58,7 @@ abbrev parity_special_in_mode3 : Happens
 parity_special_in_mode3 =
     first_a (λ a e.
     let v = a.registers.wr1 in
-    with_wr1 a (if eqb (receive_mode v) 3 then v - 8 else v))
+    with_wr1 a (if eqb (receive_field v) 3 then v - 8 else v))
 
 pub parity_special_in_mode3_refused : Told parity_special_in_mode3 → ⊥
 unfolding telling

@@ -1,12 +1,14 @@
 -- Laws of a character's bits: how many they are at most.
 -- Assumes nothing.
-use Rattle.std.specs.Prelude.{Bool, List, ◌++◌, ℕ, ◌≤◌, eqb, length}
+use Rattle.std.specs.Prelude.{Bool, List, ◌++◌, ℕ, ◌≤◌, length}
 use Rattle.std.proofs.Common.{arith, length-append}
 use Rattle.common.specs.Tools.{if_elim}
 use Rattle.line.specs.Laws.Bits.{low_bits_length}
 use Rattle.shapes.specs.Sent.{bits_sent, sent_bits}
 use Rattle.shapes.proofs.Sent.{bits_most}
 use Rattle.asynchronous.specs.declared.Format.{Format}
+use Rattle.asynchronous.specs.declared.Stops.{Stops}
+use Rattle.asynchronous.specs.declared.Stops.TheVariants.{One, Two}
 use Rattle.asynchronous.specs.declared.Typing.{Typing}
 use Rattle.asynchronous.specs.Sending.{parity_bits, stop_bits, character_bits}
 
@@ -14,9 +16,10 @@ use Rattle.asynchronous.specs.Sending.{parity_bits, stop_bits, character_bits}
 parity_most : (f : Format) (bs : List Bool) → length (parity_bits f bs) ≤ 1
 parity_most f bs = if_elim (λ (x : List Bool). length x ≤ 1) f.parity (omega arith) (omega arith)
 
-pub stops_most : (n : ℕ) → length (stop_bits n) ≤ 2
+pub stops_most : (s : Stops) → length (stop_bits s) ≤ 2
 unfolding stop_bits
-stops_most n = if_elim (λ (x : List Bool). length x ≤ 2) (eqb n 2) (omega arith) (omega arith)
+stops_most One = omega arith
+stops_most Two = omega arith
 
 pub character_most : (g : Typing) (v : ℕ) → length (character_bits g v) ≤ 11
 character_most g v =

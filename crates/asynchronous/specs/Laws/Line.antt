@@ -7,7 +7,7 @@ use Rattle.std.proofs.Math.Dec.{eqb-suc-zero}
 use Rattle.std.proofs.Math.ListN.{length}
 use Rattle.line.specs.Bits.{from_low}
 use Rattle.shared.specs.declared.Shared.{Shared}
-use Rattle.shared.specs.Shared.{emptied}
+use Rattle.shared.specs.Shared.{full, waiting_byte, emptied}
 use Rattle.asynchronous.specs.declared.Typing.{Typing}
 use Rattle.asynchronous.specs.declared.Character.{Character}
 use Rattle.asynchronous.specs.declared.Typed.{Typed}
@@ -17,12 +17,12 @@ use Rattle.line.specs.Laws.Bits.{odd_joined, half_joined}
 
 module _ (g : Typing) (k : Shared) where
   -- the start bit
-  pub tick_loads : (c : Character) → eqb c.left 0 ≡ true → g.on ≡ true → k.full ≡ true
-      → tick_character g c k ≡ start_character g k
+  pub tick_loads : (c : Character) → eqb c.left 0 ≡ true → g.on ≡ true → full k ≡ true
+      → tick_character g c k ≡ start_character g (waiting_byte k) k
   unfolding tick_character
   tick_loads c e h f = rw (e, h, f)
 
-  pub tick_waits : (c : Character) → eqb c.left 0 ≡ true → g.on && k.full ≡ false
+  pub tick_waits : (c : Character) → eqb c.left 0 ≡ true → g.on && full k ≡ false
       → tick_character g c k ≡ typed true false c k
   unfolding tick_character
   tick_waits c e h = rw (e, h)
@@ -52,11 +52,11 @@ holding_line g k (b ∷ bs) =
 
 -- "start 0, the low bits, parity, stop ones"
 pub character_line : (g : Typing) (c : Character) (k : Shared)
-    → eqb c.left 0 ≡ true → g.on ≡ true → k.full ≡ true
-    → let line = false ∷ character_bits g k.buffer in sent_in (length line) g c k ≡ line
+    → eqb c.left 0 ≡ true → g.on ≡ true → full k ≡ true
+    → let line = false ∷ character_bits g (waiting_byte k) in sent_in (length line) g c k ≡ line
 unfolding sent_in
 character_line g c k e h f =
-    let bs = character_bits g k.buffer in
+    let bs = character_bits g (waiting_byte k) in
     ap (λ (x : Typed). x.bit ∷ sent_in (length bs) g x.character x.shared)
     (tick_loads g k c e h f)
     ∙ ap (λ (l : List Bool). false ∷ l) (holding_line g (emptied k) bs)

@@ -1,8 +1,12 @@
 -- Ticks keep what a history gives. Assumes nothing.
-use Rattle.std.specs.Prelude.{Bool, ◌&&◌, ℕ, ◌≤◌, eqb}
+use Rattle.std.specs.Prelude.{Bool, ◌&&◌, ◌≤◌, eqb}
 use Rattle.std.proofs.Common.{arith}
 use Rattle.common.specs.Tools.{if_elim}
+use Rattle.shapes.specs.declared.Length.{Length}
+use Rattle.shapes.specs.declared.Length.TheVariants.{Five, Six, Seven, Eight}
+use Rattle.shapes.specs.Sent.{size}
 use Rattle.shared.specs.declared.Shared.{Shared}
+use Rattle.shared.specs.Shared.{full, waiting_byte}
 use Rattle.asynchronous.specs.declared.Format.{Format}
 use Rattle.asynchronous.specs.declared.Typing.{Typing}
 use Rattle.asynchronous.specs.declared.Character.{Character}
@@ -10,7 +14,7 @@ use Rattle.asynchronous.specs.declared.Typed.{Typed}
 use Rattle.asynchronous.specs.declared.Assembly.{Assembly}
 use Rattle.asynchronous.specs.declared.Assembled.{Assembled}
 use Rattle.asynchronous.specs.Sending.{tick_character}
-use Rattle.asynchronous.specs.Hearing.{size, hear_character}
+use Rattle.asynchronous.specs.Hearing.{hear_character}
 use Rattle.asynchronous.specs.Sound.{SoundCharacter, SoundAssembly}
 use Rattle.asynchronous.specs.Laws.Character.{character_most}
 use Rattle.line.specs.Laws.Bits.{bit_few}
@@ -23,18 +27,17 @@ pub tick_sound : (g : Typing) (c : Character) (k : Shared) → SoundCharacter c
 unfolding tick_character
 tick_sound g c k h =
     if_elim SoundTyped (eqb c.left 0)
-    (if_elim SoundTyped (g.on && k.full) (character_most g k.buffer) h)
+    (if_elim SoundTyped (g.on && full k) (character_most g (waiting_byte k)) h)
     (omega arith)
 
 abbrev SoundAssembled : Assembled → Type 0
 SoundAssembled t = SoundAssembly t.assembly
 
-size_within : (n : ℕ) → size n ≤ 8
-unfolding size
-size_within n =
-    if_elim (λ k. k ≤ 8) (eqb n 5) (omega arith)
-    (if_elim (λ k. k ≤ 8) (eqb n 6) (omega arith)
-    (if_elim (λ k. k ≤ 8) (eqb n 7) (omega arith) (omega arith)))
+size_within : (n : Length) → size n ≤ 8
+size_within Five = omega arith
+size_within Six = omega arith
+size_within Seven = omega arith
+size_within Eight = omega arith
 
 pub hear_sound : (g : Format) (a : Assembly) (x b : Bool) → SoundAssembly a
     → SoundAssembly (hear_character g a x b).assembly

@@ -1,6 +1,6 @@
 -- A tick in time takes the first bit of what is to come and goes on to a stage of the block; a
 -- write takes none. Assumes nothing.
-use Rattle.std.specs.Prelude.{◌≡◌, Bool, List, [], ◌∷◌, ◌++◌, length, if◌then◌else◌}
+use Rattle.std.specs.Prelude.{◌≡◌, Some, None, Bool, List, [], ◌∷◌, ◌++◌, length, if◌then◌else◌}
 use Rattle.std.proofs.Math.Path.{refl, ap}
 use Rattle.std.proofs.Common.{sym, ◌∙◌, subst, append_assoc}
 use Rattle.std.proofs.Math.Bool.{true, false}
@@ -13,7 +13,7 @@ use Rattle.line.specs.Check.{top, shifted, check_over, top_bits}
 use Rattle.line.specs.Laws.Bits.{low_bits_length}
 use Rattle.line.specs.Laws.Check.{check_join}
 use Rattle.shared.specs.declared.Shared.{Shared}
-use Rattle.shared.specs.Shared.{shared}
+use Rattle.shared.specs.Shared.{shared, full}
 use Rattle.bytesync.specs.declared.Syncs.{Syncs}
 use Rattle.bytesync.specs.declared.BlockUnit.{BlockUnit}
 use Rattle.bytesync.specs.declared.BlockUnit.TheVariants.{Mark, Sync, Byte, Check}
@@ -95,19 +95,20 @@ module _ (g : Syncing) (h : Good g) where
   mark_sync k = rw h.on
 
   abbrev loaded : ℕ → Bool → ℕ → Shared
-  loaded b l c = shared b false l (check_over g.polynomial c (low_bits 8 b))
+  loaded b l c = shared None l (check_over g.polynomial c (low_bits 8 b))
 
   abbrev byte_started : ℕ → Bool → ℕ → Synced
   byte_started b l c =
       record { bit = odd b; loaded = true; unit = Byte 7 (b / 2); shared = loaded b l c }
 
-  entered_is : (b : ℕ) (l : Bool) (c : ℕ) → start_byte g (shared b true l c) ≡ byte_started b l c
+  entered_is : (b : ℕ) (l : Bool) (c : ℕ)
+      → start_byte g b (shared (Some b) l c) ≡ byte_started b l c
   entered_is b l c =
       ap (λ (i : Bool). record {
         bit = odd b;
         loaded = true;
         unit = Byte 7 (b / 2);
-        shared = shared b false l (if i then check_over g.polynomial c (low_bits 8 b) else c);
+        shared = shared None l (if i then check_over g.polynomial c (low_bits 8 b) else c);
       }) h.included
 
   next_on : (u : BlockUnit) (k : Shared) (n : Synced) → following g u k ≡ n
@@ -117,7 +118,7 @@ module _ (g : Syncing) (h : Good g) where
 
   -- the byte that waits
   byte_starts : (u : BlockUnit) → chooses u ≡ true → (b c : ℕ) (l : Bool)
-      → tick_block g u (shared b true l c) ≡ byte_started b l c
+      → tick_block g u (shared (Some b) l c) ≡ byte_started b l c
   unfolding tick_block following
   byte_starts Mark e b c l = void e
   byte_starts (Sync n v) e b c l = rw (e, h.on) (entered_is b l c)
@@ -125,23 +126,23 @@ module _ (g : Syncing) (h : Good g) where
   byte_starts (Check n v) e b c l = rw (e, h.on) (entered_is b l c)
 
   -- "At an underrun .. the check if the latch is clear and WR5 D0 set, and sets the latch"
-  pub check_begins : (b c v : ℕ)
-      → tick_block g (Byte 0 v) (shared b false false c) ≡ start_check (shared b false true c)
+  pub check_begins : (c v : ℕ)
+      → tick_block g (Byte 0 v) (shared None false c) ≡ start_check (shared None true c)
   unfolding tick_block
-  check_begins b c v =
-      let k = shared b false true c in
-      next_on (Byte 0 v) (shared b false false c) (start_check k)
+  check_begins c v =
+      let k = shared None true c in
+      next_on (Byte 0 v) (shared None false c) (start_check k)
       (unfold following in
       (ap (λ (i : Bool). if i then start_check k else start_sync g k) h.included))
 
   -- none waits, and the latch is set
-  sync_follows : (u : BlockUnit) → chooses u ≡ true → (b c : ℕ)
-      → tick_block g u (shared b false true c) ≡ start_sync g (shared b false true c)
+  sync_follows : (u : BlockUnit) → chooses u ≡ true → (c : ℕ)
+      → tick_block g u (shared None true c) ≡ start_sync g (shared None true c)
   unfolding tick_block following
-  sync_follows Mark e b c = void e
-  sync_follows (Sync n v) e b c = rw (e, h.on)
-  sync_follows (Byte n v) e b c = rw (e, h.on)
-  sync_follows (Check n v) e b c = rw (e, h.on)
+  sync_follows Mark e c = void e
+  sync_follows (Sync n v) e c = rw (e, h.on)
+  sync_follows (Byte n v) e c = rw (e, h.on)
+  sync_follows (Check n v) e c = rw (e, h.on)
 
 -- a tick in time takes the first bit of what is to come, and goes on to a stage; while the latch is
 -- clear, the tick sets it exactly if it begins the check
@@ -170,105 +171,106 @@ by_tick {g} {s} {rest} {tail} n e h t l =
 -- the block, a byte behind the check, the sync behind all of them
 module _ (g : Syncing) (h : Good g) (u : BlockUnit) (over : chooses u ≡ true) where
   takes_byte_lem : (b c : ℕ) (rest tail : List ℕ)
-      → to_come g (sends u (shared b true false c)) rest tail ≡ closed g c (b ∷ rest) tail
-      → Takes g (sends u (shared b true false c)) rest tail
+      → to_come g (sends u (shared (Some b) false c)) rest tail ≡ closed g c (b ∷ rest) tail
+      → Takes g (sends u (shared (Some b) false c)) rest tail
   takes_byte_lem b c rest tail e =
       by_tick (byte_started g h b false c) (byte_starts g h u over b c false)
       (e ∙ load g b c rest tail)
-      (in_byte 7 (b / 2) b false (check_over g.polynomial c (low_bits 8 b)) rest tail) (λ l. refl)
+      (in_byte 7 (b / 2) None (check_over g.polynomial c (low_bits 8 b)) rest tail) (λ l. refl)
 
   takes_behind : (b c : ℕ) (tail : List ℕ)
-      → to_come g (sends u (shared b true true c)) [] tail ≡ behind g (b ∷ tail)
-      → Takes g (sends u (shared b true true c)) [] tail
+      → to_come g (sends u (shared (Some b) true c)) [] tail ≡ behind g (b ∷ tail)
+      → Takes g (sends u (shared (Some b) true c)) [] tail
   takes_behind b c tail e =
       by_tick (byte_started g h b true c) (byte_starts g h u over b c true)
       (e ∙ byte_first b tail (sync_bits g.syncs))
-      (in_tail 7 (b / 2) b false (check_over g.polynomial c (low_bits 8 b)) tail)
+      (in_tail 7 (b / 2) None (check_over g.polynomial c (low_bits 8 b)) tail)
       (λ l. void (sym l))
 
-  takes_sync : (b c : ℕ) → to_come g (sends u (shared b false true c)) [] [] ≡ behind g []
-      → Takes g (sends u (shared b false true c)) [] []
-  takes_sync b c e =
+  takes_sync : (c : ℕ) → to_come g (sends u (shared None true c)) [] [] ≡ behind g []
+      → Takes g (sends u (shared None true c)) [] []
+  takes_sync c e =
       let y = g.syncs in
-      by_tick (start_sync g (shared b false true c)) (sync_follows g h u over b c)
+      by_tick (start_sync g (shared None true c)) (sync_follows g h u over c)
       (e ∙ (unfold text_bits in (sync_starts y h.first)))
-      (closing (sync_left y) (sync_sent y / 2) b c) (λ l. void (sym l))
+      (closing (sync_left y) (sync_sent y / 2) c) (λ l. void (sym l))
 
 pub takes : (g : Syncing) → Good g → {s : Sends} {rest tail : List ℕ} → Stage s rest tail
     → in_time s rest tail ≡ true → 1 ≤ length (to_come g s rest tail) → Takes g s rest tail
-takes g h (at_mark b f c rest tail s) t l =
-    let k = shared b f false c in
+takes g h (at_mark b c rest tail s) t l =
+    let k = shared b false c in
     let v = sync_sent g.syncs in
     by_tick (start_sync g k) (mark_sync g h k)
     (ap (λ (x : List Bool). x ++ closed g c (waiting k rest) tail)
     (sync_starts g.syncs h.first))
-    (opening (sync_left g.syncs) (v / 2) b f c rest tail s) (λ e. refl)
-takes g h (opening (suc n) v b f c rest tail s) t l =
-    let k = shared b f false c in
+    (opening (sync_left g.syncs) (v / 2) b c rest tail s) (λ e. refl)
+takes g h (opening (suc n) v b c rest tail s) t l =
+    let k = shared b false c in
     by_tick (sent_bit (odd v) (Sync n (v / 2)) k) (tick_sync g k n v) (unfold low_bits in refl)
-    (opening n (v / 2) b f c rest tail s) (λ e. refl)
-takes g h (opening zero v b true c rest tail s) t l =
+    (opening n (v / 2) b c rest tail s) (λ e. refl)
+takes g h (opening zero v (Some b) c rest tail s) t l =
     takes_byte_lem g h (Sync 0 v) refl b c rest tail (unfold low_bits in refl)
-takes g h (opening zero v b false c [] tail s) t l = absurd s
-takes g h (opening zero v b false c (x ∷ rest) tail s) t l = void t
-takes g h (in_byte (suc n) v b f c rest tail) t l =
-    let k = shared b f false c in
+takes g h (opening zero v None c [] tail s) t l = absurd s
+takes g h (opening zero v None c (x ∷ rest) tail s) t l = void t
+takes g h (in_byte (suc n) v b c rest tail) t l =
+    let k = shared b false c in
     by_tick (sent_bit (odd v) (Byte n (v / 2)) k) (tick_byte g k n v) (unfold low_bits in refl)
-    (in_byte n (v / 2) b f c rest tail) (λ e. refl)
-takes g h (in_byte zero v b true c rest tail) t l =
+    (in_byte n (v / 2) b c rest tail) (λ e. refl)
+takes g h (in_byte zero v (Some b) c rest tail) t l =
     takes_byte_lem g h (Byte 0 v) refl b c rest tail (unfold low_bits in refl)
-takes g h (in_byte zero v b false c [] tail) t l =
-    by_tick (start_check (shared b false true c)) (check_begins g h b c v)
-    (unfold low_bits in (closed_none g c tail)) (in_check 15 (shifted c) b false c tail) (λ e. refl)
-takes g h (in_byte zero v b false c (x ∷ rest) tail) t l = void t
-takes g h (in_check (suc n) v b f c tail) t l =
-    let k = shared b f true c in
+takes g h (in_byte zero v None c [] tail) t l =
+    by_tick (start_check (shared None true c)) (check_begins g h c v)
+    (unfold low_bits in (closed_none g c tail)) (in_check 15 (shifted c) None c tail) (λ e. refl)
+takes g h (in_byte zero v None c (x ∷ rest) tail) t l = void t
+takes g h (in_check (suc n) v b c tail) t l =
+    let k = shared b true c in
     by_tick (sent_bit (top v) (Check n (shifted v)) k) (tick_check g k n v) (unfold top_bits in refl)
-    (in_check n (shifted v) b f c tail) (λ e. refl)
-takes g h (in_check zero v b true c tail) t l =
+    (in_check n (shifted v) b c tail) (λ e. refl)
+takes g h (in_check zero v (Some b) c tail) t l =
     takes_behind g h (Check 0 v) refl b c tail (unfold top_bits in refl)
-takes g h (in_check zero v b false c []) t l =
-    takes_sync g h (Check 0 v) refl b c (unfold top_bits in refl)
-takes g h (in_check zero v b false c (x ∷ tail)) t l = void t
-takes g h (in_tail (suc n) v b f c tail) t l =
-    let k = shared b f true c in
+takes g h (in_check zero v None c []) t l =
+    takes_sync g h (Check 0 v) refl c (unfold top_bits in refl)
+takes g h (in_check zero v None c (x ∷ tail)) t l = void t
+takes g h (in_tail (suc n) v b c tail) t l =
+    let k = shared b true c in
     by_tick (sent_bit (odd v) (Byte n (v / 2)) k) (tick_byte g k n v) (unfold low_bits in refl)
-    (in_tail n (v / 2) b f c tail) (λ e. void (sym e))
-takes g h (in_tail zero v b true c tail) t l =
+    (in_tail n (v / 2) b c tail) (λ e. void (sym e))
+takes g h (in_tail zero v (Some b) c tail) t l =
     takes_behind g h (Byte 0 v) refl b c tail (unfold low_bits in refl)
-takes g h (in_tail zero v b false c []) t l =
-    takes_sync g h (Byte 0 v) refl b c (unfold low_bits in refl)
-takes g h (in_tail zero v b false c (x ∷ tail)) t l = void t
-takes g h (closing (suc n) v b c) t l =
-    let k = shared b false true c in
+takes g h (in_tail zero v None c []) t l =
+    takes_sync g h (Byte 0 v) refl c (unfold low_bits in refl)
+takes g h (in_tail zero v None c (x ∷ tail)) t l = void t
+takes g h (closing (suc n) v c) t l =
+    let k = shared None true c in
     by_tick (sent_bit (odd v) (Sync n (v / 2)) k) (tick_sync g k n v) (unfold low_bits in refl)
-    (closing n (v / 2) b c) (λ e. void (sym e))
-takes g h (closing zero v b c) t l = absurd (omega (arith, low_bits_length 0 v))
+    (closing n (v / 2) c) (λ e. void (sym e))
+takes g h (closing zero v c) t l = absurd (omega (arith, low_bits_length 0 v))
 
 -- a write into the empty buffer moves a byte from what is to be written to what waits
 pub moves : (g : Syncing) {s : Sends} {v : ℕ} {rest tail : List ℕ} → Stage s (v ∷ rest) tail
-    → s.shared.full ≡ false
+    → full s.shared ≡ false
     → (to_come g s (v ∷ rest) tail ≡ to_come g (filled_with s v) rest tail)
     × Stage (filled_with s v) rest tail
-moves g (at_mark b true c rest tail s) e = void (sym e)
-moves g {v = v} {rest = rest} (at_mark b false c _ tail s) e = (refl, at_mark v true c rest tail tt)
-moves g (opening n x b true c rest tail s) e = void (sym e)
-moves g {v = v} {rest = rest} (opening n x b false c _ tail s) e =
-    (refl, opening n x v true c rest tail tt)
-moves g (in_byte n x b true c rest tail) e = void (sym e)
-moves g {v = v} {rest = rest} (in_byte n x b false c _ tail) e =
-    (refl, in_byte n x v true c rest tail)
+moves g (at_mark (Some b) c rest tail s) e = void (sym e)
+moves g {v = v} {rest = rest} (at_mark None c _ tail s) e = (refl, at_mark (Some v) c rest tail tt)
+moves g (opening n x (Some b) c rest tail s) e = void (sym e)
+moves g {v = v} {rest = rest} (opening n x None c _ tail s) e =
+    (refl, opening n x (Some v) c rest tail tt)
+moves g (in_byte n x (Some b) c rest tail) e = void (sym e)
+moves g {v = v} {rest = rest} (in_byte n x None c _ tail) e =
+    (refl, in_byte n x (Some v) c rest tail)
 
 -- and, once the latch is set, from what goes straight behind the check
 pub moves_behind : (g : Syncing) {s : Sends} {v : ℕ} {rest tail : List ℕ} → Stage s rest (v ∷ tail)
-    → s.shared.latch ≡ true → s.shared.full ≡ false
+    → s.shared.latch ≡ true → full s.shared ≡ false
     → (to_come g s rest (v ∷ tail) ≡ to_come g (filled_with s v) rest tail)
     × Stage (filled_with s v) rest tail
-moves_behind g (at_mark b f c rest _ s) l e = void l
-moves_behind g (opening n x b f c rest _ s) l e = void l
-moves_behind g (in_byte n x b f c rest _) l e = void l
-moves_behind g (in_check n x b true c _) l e = void (sym e)
-moves_behind g {v = v} {tail = tail} (in_check n x b false c _) l e =
-    (refl, in_check n x v true c tail)
-moves_behind g (in_tail n x b true c _) l e = void (sym e)
-moves_behind g {v = v} {tail = tail} (in_tail n x b false c _) l e = (refl, in_tail n x v true c tail)
+moves_behind g (at_mark b c rest _ s) l e = void l
+moves_behind g (opening n x b c rest _ s) l e = void l
+moves_behind g (in_byte n x b c rest _) l e = void l
+moves_behind g (in_check n x (Some b) c _) l e = void (sym e)
+moves_behind g {v = v} {tail = tail} (in_check n x None c _) l e =
+    (refl, in_check n x (Some v) c tail)
+moves_behind g (in_tail n x (Some b) c _) l e = void (sym e)
+moves_behind g {v = v} {tail = tail} (in_tail n x None c _) l e =
+    (refl, in_tail n x (Some v) c tail)

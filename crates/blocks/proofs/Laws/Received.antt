@@ -1,21 +1,19 @@
 -- A block's way through a receiver: what is handed over, what enters the check, and what that
 -- leaves. Assumes nothing.
-use Rattle.std.specs.Prelude.{◌≡◌, ◌≢◌, Bool, true, false, not, ◌&&◌, List, [], ◌∷◌, ◌++◌, ℕ, zero, suc, ◌%◌, ◌<◌, length, if◌then◌else◌}
+use Rattle.std.specs.Prelude.{Option, Some, None, option_to_list, ◌≡◌, ◌≢◌, Bool, true, false, not, ◌&&◌, List, [], ◌∷◌, ◌++◌, ℕ, zero, suc, ◌%◌, ◌<◌, length, if◌then◌else◌}
 use Rattle.std.proofs.Math.Path.{refl, ap}
 use Rattle.std.proofs.Common.{sym, ◌∙◌, append-nil, eq-eqb, ne_eqb}
-use Rattle.common.specs.Tools.{and_false}
 use Rattle.line.specs.Bits.{low_bits, text_bits}
 use Rattle.line.specs.Check.{check_over}
 use Rattle.line.specs.Laws.Bits.{text_bits_join}
 use Rattle.line.specs.Laws.Check.{check_join}
 use Rattle.entry.specs.declared.Entry.{Entry}
 use Rattle.entry.specs.Entry.{plain_entry}
-use Rattle.queue.specs.Holding.{entry_if}
 use Rattle.bytesync.specs.declared.Syncs.{Syncs}
 use Rattle.bytesync.specs.declared.Matching.{Matching}
 use Rattle.bytesync.specs.declared.Block.{Block}
 use Rattle.bytesync.specs.Hearing.{no_block, reception_at, searching, expected, entering, arrived}
-use Rattle.bytesync.specs.Hearing.{assembling, hear_block}
+use Rattle.bytesync.specs.Hearing.{check_behind, assembling, hear_block}
 use Rattle.shared.specs.Preset.{zeros}
 use Rattle.blocks.specs.Check.{check_from, check_bytes, with_check}
 use Rattle.blocks.specs.Heard.{Moment, heeding, Final, before, handed, hear_all, along}
@@ -45,8 +43,8 @@ char_in g d x v i ts a b c e f h j l =
 -- other
 
 given_one : (b : Bool) (v : ℕ) (ws : List ℕ)
-    → entry_if b (plain_entry v false false) ++ entries_of ws
-    ≡ entries_of ((if b then v ∷ [] else []) ++ ws)
+    → option_to_list (if b then None else Some (plain_entry v false false)) ++ entries_of ws
+    ≡ entries_of ((if not b then v ∷ [] else []) ++ ws)
 unfolding entries_of
 given_one true v ws = refl
 given_one false v ws = refl
@@ -60,27 +58,29 @@ got_is g d x (brings {v = v} {i = i} {cs = cs} {ts = ts} a b c e f h j l k) =
     let s = m.reception.block.leading in
     ap (λ (y : Final). y.got) (char_in g d x v i ts a b c e f h j l)
     ∙ ap (λ (y : List Entry). handed m ++ y) (got_is g m.reception.block m.check k)
-    ∙ given_one (not (s && g.strip)) v (kept g s (not d.turn) cs)
+    ∙ given_one (s && g.strip) v (kept g s (not d.turn) cs)
 
-enters_is : (p c v : ℕ) (b : Bool)
-    → (if b then check_over p c (low_bits 8 v) else c) ≡ check_from p c (if b then v ∷ [] else [])
-enters_is p c v true = unfold text_bits in ap (check_over p c) (sym (append-nil (low_bits 8 v)))
-enters_is p c v false = unfold text_bits check_over in refl
+enters_is : (p c : ℕ) (h : Option ℕ) (b : Bool)
+    → (if b then check_behind p c h else c) ≡ check_from p c (if b then option_to_list h else [])
+enters_is p c None true = unfold text_bits check_over in refl
+enters_is p c (Some v) true =
+    unfold text_bits in ap (check_over p c) (sym (append-nil (low_bits 8 v)))
+enters_is p c h false = unfold text_bits check_over in refl
 
 check_is : (g : Matching) {cs : List Character} {ts : List Moment} (d : Block) (x : ℕ)
     → Brings cs ts
     → (hear_all g (reception_at false d) x ts).check
-    ≡ check_from g.polynomial x (entrants d.have d.held cs)
+    ≡ check_from g.polynomial x (entrants d.held cs)
 unfolding entrants arrived entering
 check_is g d x nothing = unfold hear_all text_bits check_over in refl
 check_is g d x (brings {v = v} {i = i} {cs = cs} {ts = ts} a b c e f h j l k) =
     let p = g.polynomial in
     let m = arrived (heeding g i) d x v in
-    let vs = if i && d.have then d.held ∷ [] else [] in
-    let ws = entrants true v cs in
+    let vs = if i then option_to_list d.held else [] in
+    let ws = entrants (Some v) cs in
     ap (λ (y : Final). y.check) (char_in g d x v i ts a b c e f h j l)
     ∙ check_is g m.reception.block m.check k
-    ∙ ap (λ (y : ℕ). check_from p y ws) (enters_is p x d.held (i && d.have))
+    ∙ ap (λ (y : ℕ). check_from p y ws) (enters_is p x d.held i)
     ∙ sym (check_join p x (text_bits 8 vs) (text_bits 8 ws))
     ∙ ap (check_over p x) (sym (text_bits_join 8 vs ws))
 
@@ -92,25 +92,28 @@ unfolding kept first_free
 kept_free g l t i [] = refl
 kept_free g l t i (c ∷ cs) = refl
 
-entrants_free : (x : ℕ) (i : Bool) (cs : List Character)
-    → entrants false x (first_free i cs) ≡ entrants false x cs
+entrants_free : (i : Bool) (cs : List Character)
+    → entrants None (first_free i cs) ≡ entrants None cs
 unfolding entrants first_free
-entrants_free x i [] = refl
-entrants_free x i (c ∷ cs) =
-    ap (λ (b : Bool). (if b then x ∷ [] else []) ++ entrants true c.byte cs)
-    (and_false i ∙ sym (and_false c.lets))
+entrants_free i [] = refl
+entrants_free i (c ∷ cs) =
+    ap (λ (l : List ℕ). l ++ entrants (Some c.byte) cs) (none_either i ∙ sym (none_either c.lets))
+  where
+    none_either : (b : Bool) → ◌≡◌ {A = List ℕ} (if b then [] else []) []
+    none_either true = refl
+    none_either false = refl
 
-all_enter : (v w : ℕ) (vs : List ℕ) → entrants true v (each true (vs ++ (w ∷ []))) ≡ v ∷ vs
+all_enter : (v w : ℕ) (vs : List ℕ) → entrants (Some v) (each true (vs ++ (w ∷ []))) ≡ v ∷ vs
 unfolding entrants each
 all_enter v w [] = refl
 all_enter v w (y ∷ vs) = ap (λ (l : List ℕ). v ∷ l) (all_enter y w vs)
 
-block_enters : (h : Bool) (x w : ℕ) (ss vs : List ℕ)
-    → entrants h x (each false ss ++ let_in (vs ++ (w ∷ []))) ≡ vs
+block_enters : (h : Option ℕ) (w : ℕ) (ss vs : List ℕ)
+    → entrants h (each false ss ++ let_in (vs ++ (w ∷ []))) ≡ vs
 unfolding entrants each let_in
-block_enters h x w [] [] = refl
-block_enters h x w [] (v ∷ vs) = all_enter v w vs
-block_enters h x w (s ∷ ss) vs = block_enters true s w ss vs
+block_enters h w [] [] = refl
+block_enters h w [] (v ∷ vs) = all_enter v w vs
+block_enters h w (s ∷ ss) vs = block_enters (Some s) w ss vs
 
 kept_all : (g : Matching) (t i : Bool) (vs : List ℕ) → kept g false t (each i vs) ≡ vs
 unfolding kept each
@@ -173,7 +176,7 @@ module _ (g : Matching) (first : g.syncs.first < 256) (second : g.syncs.second <
       ap (λ (f : Final). f.check) (sync_found g is c ts first second full)
       ∙ check_is g (no_block true) c b
       ∙ ap (check_from p c)
-      (entrants_free 0 i (each false ss ++ let_in (vs ++ (w ∷ []))) ∙ block_enters false 0 w ss vs)
+      (entrants_free i (each false ss ++ let_in (vs ++ (w ∷ []))) ∙ block_enters None w ss vs)
 
   -- a text, of which the first byte is no sync, and its check: all is handed over, and the register
   -- is zero

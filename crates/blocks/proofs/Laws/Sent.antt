@@ -1,7 +1,7 @@
 -- Blocks sent in time: the line from the sync on is sync, bytes, check, what goes straight behind
 -- it, sync; at every moment what was sent and what is to come are that; and a second block follows
 -- in the sync behind the first. Assumes nothing.
-use Rattle.std.specs.Prelude.{◌≡◌, refl, Bool, true, false, List, [], ◌∷◌, ◌++◌, ℕ, suc, ◌+◌, ◌*◌, ◌-◌, ◌/◌, ◌^◌, ◌≤◌, ◌<◌, length, take, if◌then◌else◌}
+use Rattle.std.specs.Prelude.{◌≡◌, None, refl, Bool, true, false, List, [], ◌∷◌, ◌++◌, ℕ, suc, ◌+◌, ◌*◌, ◌-◌, ◌/◌, ◌^◌, ◌≤◌, ◌<◌, length, take, if◌then◌else◌}
 use Rattle.std.proofs.Common.{sym, ap, ap₂, ◌∙◌, append_assoc, append-nil, arith, length-append, take_at}
 use Rattle.common.specs.Tools.{void, no_items}
 use Rattle.line.specs.Bits.{low_bits, text_bits}
@@ -132,26 +132,26 @@ sync_under_way y p h l =
 -- Blocks
 
 -- the state at the start: what is to come is the rest of the sync and the block
-pub to_come_started : (g : Syncing) → Good g → (p b v : ℕ) (vs tail : List ℕ)
+pub to_come_started : (g : Syncing) → Good g → (p v : ℕ) (vs tail : List ℕ)
     → p ≤ sync_length g.syncs
-    → sync_head g.syncs p ++ to_come g (started g.syncs p b) (v ∷ vs) tail
+    → sync_head g.syncs p ++ to_come g (started g.syncs p) (v ∷ vs) tail
     ≡ block_bits g (v ∷ vs) tail
-to_come_started g h p b v vs tail l =
+to_come_started g h p v vs tail l =
     let y = g.syncs in
     sym (append_assoc (sync_head y p) (low_bits (sync_length y - p) (sync_sent y / 2 ^ p))
     (closed g zeros (v ∷ vs) tail))
     ∙ ap (λ (x : List Bool). x ++ closed g zeros (v ∷ vs) tail) (sync_under_way y p h.first l)
 
-pub started_stage : (y : Syncs) (p b v : ℕ) (vs tail : List ℕ)
-    → Stage (started y p b) (v ∷ vs) tail
-started_stage y p b v vs tail =
-    opening (sync_length y - p) (sync_sent y / 2 ^ p) b false zeros (v ∷ vs) tail tt
+pub started_stage : (y : Syncs) (p v : ℕ) (vs tail : List ℕ)
+    → Stage (started y p) (v ∷ vs) tail
+started_stage y p v vs tail =
+    opening (sync_length y - p) (sync_sent y / 2 ^ p) None zeros (v ∷ vs) tail tt
 
-pub to_come_length : (g : Syncing) (p b v : ℕ) (vs tail : List ℕ)
-    → length (to_come g (started g.syncs p b) (v ∷ vs) tail)
+pub to_come_length : (g : Syncing) (p v : ℕ) (vs tail : List ℕ)
+    → length (to_come g (started g.syncs p) (v ∷ vs) tail)
     ≡ sync_length g.syncs - p
     + (8 * length (v ∷ vs) + 16 + 8 * length tail + sync_length g.syncs)
-to_come_length g p b v vs tail =
+to_come_length g p v vs tail =
     let y = g.syncs in
     let x = low_bits (sync_length y - p) (sync_sent y / 2 ^ p) in
     length-append x (closed g zeros (v ∷ vs) tail)
@@ -160,23 +160,23 @@ to_come_length g p b v vs tail =
 
 -- from a sync of which p bits are sent, n bytes and m behind the check: the line is that sync, the
 -- bytes, their check, those behind it, a sync
-pub block_sent : (g : Syncing) → Good g → (p b v : ℕ) (vs tail : List ℕ) {acts : List Act}
-    → p ≤ sync_length g.syncs → InTime g [] [] (started g.syncs p b) (v ∷ vs) tail acts
+pub block_sent : (g : Syncing) → Good g → (p v : ℕ) (vs tail : List ℕ) {acts : List Act}
+    → p ≤ sync_length g.syncs → InTime g [] [] (started g.syncs p) (v ∷ vs) tail acts
     → p + ticks acts
     ≡ 2 * sync_length g.syncs + 8 * length (v ∷ vs) + 16 + 8 * length tail
-    → sync_head g.syncs p ++ acts_line g (started g.syncs p b) acts ≡ block_bits g (v ∷ vs) tail
-block_sent g h p b v vs tail l i e =
+    → sync_head g.syncs p ++ acts_line g (started g.syncs p) acts ≡ block_bits g (v ∷ vs) tail
+block_sent g h p v vs tail l i e =
     ap (λ (x : List Bool). sync_head g.syncs p ++ x)
-    (all_sent_lem g h i (started_stage g.syncs p b v vs tail)
-    (omega (arith, to_come_length g p b v vs tail)))
-    ∙ to_come_started g h p b v vs tail l
+    (all_sent_lem g h i (started_stage g.syncs p v vs tail)
+    (omega (arith, to_come_length g p v vs tail)))
+    ∙ to_come_started g h p v vs tail l
 
 -- from a mark, with a whole sync
-pub block_sent_from_mark : (g : Syncing) → Good g → (b v : ℕ) (vs tail : List ℕ) {acts : List Act}
-    → let s = sends Mark (shared b false false zeros) in
+pub block_sent_from_mark : (g : Syncing) → Good g → (v : ℕ) (vs tail : List ℕ) {acts : List Act}
+    → let s = sends Mark (shared None false zeros) in
     InTime g [] [] s (v ∷ vs) tail acts → ticks acts ≡ length (block_bits g (v ∷ vs) tail)
     → acts_line g s acts ≡ block_bits g (v ∷ vs) tail
-block_sent_from_mark g h b v vs tail i e = all_sent_lem g h i (at_mark b false zeros (v ∷ vs) tail tt) e
+block_sent_from_mark g h v vs tail i e = all_sent_lem g h i (at_mark None zeros (v ∷ vs) tail tt) e
 
 -- Two blocks in a row: within the sync behind the first the host clears the latch and presets the
 -- check
@@ -191,16 +191,16 @@ closing_readied : (g : Syncing) {s : Sends} → Stage s [] [] → (n x v : ℕ) 
     → s.unit ≡ Sync n x → s.shared.latch ≡ true
     → (to_come g (readied s) (v ∷ vs) tail ≡ to_come g s [] [] ++ closed g zeros (v ∷ vs) tail)
     × Stage (readied s) (v ∷ vs) tail
-closing_readied g (at_mark b f c rest tail s) n x v vs more e l = void l
-closing_readied g (opening m y b f c rest tail s) n x v vs more e l = void l
-closing_readied g (in_byte m y b f c rest tail) n x v vs more e l = void l
-closing_readied g (in_check m y b f c tail) n x v vs more e l = void (ap is_sync e)
-closing_readied g (in_tail m y b f c tail) n x v vs more e l = void (ap is_sync e)
-closing_readied g (closing m y b c) n x v vs more e l =
-    (refl, opening m y b false zeros (v ∷ vs) more tt)
+closing_readied g (at_mark b c rest tail s) n x v vs more e l = void l
+closing_readied g (opening m y b c rest tail s) n x v vs more e l = void l
+closing_readied g (in_byte m y b c rest tail) n x v vs more e l = void l
+closing_readied g (in_check m y b c tail) n x v vs more e l = void (ap is_sync e)
+closing_readied g (in_tail m y b c tail) n x v vs more e l = void (ap is_sync e)
+closing_readied g (closing m y c) n x v vs more e l =
+    (refl, opening m y None zeros (v ∷ vs) more tt)
 
-pub two_blocks : (g : Syncing) → Good g → (p b v : ℕ) (vs tail : List ℕ) (xs ys : List Act)
-    → p ≤ sync_length g.syncs → let s = started g.syncs p b in
+pub two_blocks : (g : Syncing) → Good g → (p v : ℕ) (vs tail : List ℕ) (xs ys : List Act)
+    → p ≤ sync_length g.syncs → let s = started g.syncs p in
     InTime g [] [] s (v ∷ vs) tail xs
     → p + ticks xs ≤ 2 * sync_length g.syncs + 8 * length (v ∷ vs) + 16 + 8 * length tail
     → let m = last_of g s xs in (n x : ℕ) → m.unit ≡ Sync n x → m.shared.latch ≡ true
@@ -208,12 +208,12 @@ pub two_blocks : (g : Syncing) → Good g → (p b v : ℕ) (vs tail : List ℕ)
     → ticks ys ≡ length (to_come g (readied m) (w ∷ ws) more)
     → sync_head g.syncs p ++ (acts_line g s xs ++ acts_line g (readied m) ys)
     ≡ block_bits g (v ∷ vs) tail ++ closed g zeros (w ∷ ws) more
-two_blocks g h p b v vs tail xs ys l i e n x u f w ws more j d =
+two_blocks g h p v vs tail xs ys l i e n x u f w ws more j d =
     let y = g.syncs in
-    let s = started y p b in
+    let s = started y p in
     let m = last_of g s xs in
-    let k = in_time_sends g h i (started_stage y p b v vs tail)
-    (omega (arith, to_come_length g p b v vs tail)) in
+    let k = in_time_sends g h i (started_stage y p v vs tail)
+    (omega (arith, to_come_length g p v vs tail)) in
     let a = closing_readied g k.stage n x w ws more u f in
     let next = closed g zeros (w ∷ ws) more in
     let head = sync_head y p in
@@ -222,4 +222,4 @@ two_blocks g h p b v vs tail xs ys l i e n x u f w ws more j d =
     (sym (append_assoc (acts_line g s xs) (to_come g m [] []) next)
     ∙ ap (λ (z : List Bool). z ++ next) k.line)
     ∙ sym (append_assoc head (to_come g s (v ∷ vs) tail) next)
-    ∙ ap (λ (z : List Bool). z ++ next) (to_come_started g h p b v vs tail l)
+    ∙ ap (λ (z : List Bool). z ++ next) (to_come_started g h p v vs tail l)

@@ -117,26 +117,26 @@ given_all g vs w =
 
 -- what one sends in time, the other hears whole and with a good check: the bits that it hears are
 -- those of the sync, the bytes, the check and one character more
-pub together : (s : Syncing) (r : Matching) (p b v : ℕ) (vs tail : List ℕ) {acts : List Act}
+pub together : (s : Syncing) (r : Matching) (p v : ℕ) (vs tail : List ℕ) {acts : List Act}
     → Good s → p ≤ sync_length s.syncs
-    → InTime s [] [] (started s.syncs p b) (v ∷ vs) tail acts
+    → InTime s [] [] (started s.syncs p) (v ∷ vs) tail acts
     → p + ticks acts
     ≡ 2 * sync_length s.syncs + 8 * length (v ∷ vs) + 16 + 8 * length tail
     → Alike s r → r.syncs.first < 256 → r.syncs.second < 256 → r.polynomial < 65536
     → v ≢ expected r.syncs false → Below 256 (v ∷ vs) → last_byte s tail < 256
     → (i : Bool) (ts : List Moment)
     → bits_of ts ++ bits_left s tail
-    ≡ sync_head s.syncs p ++ acts_line s (started s.syncs p b) acts
+    ≡ sync_head s.syncs p ++ acts_line s (started s.syncs p) acts
     → ends_of (pattern_length r.syncs + 7) ts ≡ letting i 0 (length (v ∷ vs) + 2)
     → let f = hear_all r (searching true) zeros ts in
     (f.got ≡ entries_of (with_check r.polynomial (v ∷ vs) ++ (last_byte s tail ∷ [])))
     × (f.check ≡ 0)
-together s r p b v vs tail h l t n a first second small d k m i ts e o =
+together s r p v vs tail h l t n a first second small d k m i ts e o =
     let w = last_byte s tail in
     let bytes = with_check r.polynomial (v ∷ vs) in
     let fed : Feeds r.syncs 0 bytes w ts = record {
       bits =
-          line_bytes s (v ∷ vs) tail (bits_of ts) (e ∙ block_sent s h p b v vs tail l t n)
+          line_bytes s (v ∷ vs) tail (bits_of ts) (e ∙ block_sent s h p v vs tail l t n)
           ∙ same_bytes s r (v ∷ vs) w a;
       first = i;
       lets = o ∙ ap (letting i 0) (sym (with_check_length r.polynomial (v ∷ vs)));

@@ -4,6 +4,7 @@ use Rattle.std.proofs.Common.{arith}
 use borrow.Author.Tests.{ltb-true}
 use Rattle.common.specs.Tools.{if_elim, by_test, ltb_elim}
 use Rattle.shared.specs.declared.Shared.{Shared}
+use Rattle.shared.specs.Shared.{full}
 use Rattle.bytesync.specs.declared.Syncs.{Syncs}
 use Rattle.bytesync.specs.declared.BlockUnit.{BlockUnit}
 use Rattle.bytesync.specs.declared.BlockUnit.TheVariants.{Mark, Sync, Byte, Check}
@@ -29,7 +30,7 @@ left_few y = if_elim (λ n. n ≤ 15) y.both (omega arith) (omega arith)
 
 module _ (g : Syncing) (k : Shared) where
   either_sound : SoundSynced (byte_or_sync g k)
-  either_sound = if_elim SoundSynced k.full (omega arith) (left_few g.syncs)
+  either_sound = if_elim SoundSynced (full k) (omega arith) (left_few g.syncs)
 
   underrun_sound : SoundSynced (underrun g k)
   underrun_sound =
@@ -39,7 +40,7 @@ module _ (g : Syncing) (k : Shared) where
   unfolding following
   following_sound Mark = left_few g.syncs
   following_sound (Sync n v) = either_sound
-  following_sound (Byte n v) = if_elim SoundSynced k.full (omega arith) underrun_sound
+  following_sound (Byte n v) = if_elim SoundSynced (full k) (omega arith) underrun_sound
   following_sound (Check n v) = either_sound
 
   next_sound : (u : BlockUnit) → SoundSynced (next g u k)

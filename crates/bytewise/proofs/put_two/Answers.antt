@@ -21,15 +21,15 @@ roomy at row len fit told e =
 pub returns-then-two_fit : goal.returns-then-two_fit
 returns-then-two_fit c =
     let second = c.put_stamp in
-    let first = c.put_stamp-r in
+    let first = c.put_stamp-q in
     let e = c.stamp_for-e in
     let f = c.stamp_for-f in
     let len = length c.args.out.now in
     let fit = c.two_fit in
     let room =
     roomy c.args.p.at c.args.p.row len fit.result fit.ensures c.if-two_fit.true in
-    let stamps = c.args.stamps.now in
-    let fours = c.args.fours.now in
+    let stamps = c.args.tables.now.stamps in
+    let fours = c.args.tables.now.fours in
     let start = plate c.args.out.now c.args.p in
     let behind-first = plate first.new.out first.result in
     let one : byte_stamped stamps fours start c.args.v ≡ behind-first =

@@ -1,5 +1,5 @@
 -- Ticks that change nothing of what the status rule sees. Assumes nothing.
-use Rattle.std.specs.Prelude.{◌≡◌, refl, Bool, true, false, not, ◌&&◌, ◌||◌, if◌then◌else◌}
+use Rattle.std.specs.Prelude.{◌≡◌, refl, Bool, true, false, not, ◌&&◌, ◌||◌, if◌then◌else◌, Some, is_some}
 use Rattle.std.proofs.Common.{sym, ap, ◌∙◌}
 use Rattle.std.specs.Bool.{beq}
 use Rattle.common.specs.Mode.{in_sdlc, in_blocks}
@@ -40,8 +40,8 @@ changed_same l =
 pub noticed_same : (s : Status) (l : Live) → noticed s l l ≡ s
 unfolding noticed
 noticed_same s l =
-    by_test (λ (t : Status). t ≡ s) s.latched (λ e. refl)
-    (λ e. ap (λ (b : Bool). if b then status true l else s) (changed_same l))
+    by_test (λ (t : Status). t ≡ s) (is_some s.latched) (λ e. refl)
+    (λ e. ap (λ (b : Bool). if b then status (Some l) else s) (changed_same l))
 
 -- Sending
 

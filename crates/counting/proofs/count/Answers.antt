@@ -5,7 +5,7 @@ use mathlib.Core.Path.{◌≡◌, sym, ap, ◌∙◌}
 use mathlib.Core.Bool.{Bool}
 use mathlib.Core.List.{List, [], ◌∷◌}
 use Prim.Native.Nat.{ℕ, ◌+◌, ◌/◌, ◌%◌, ◌≤◌, ◌<◌}
-use lib.Bits.{bit_xor, xor_lt}
+use lib.Bits.{bit_xor}
 use lib.ListN.{length, get_or}
 use Rattle.line.specs.Bits.{low_bits, text_bits}
 use Rattle.line.specs.Check.{ones}
@@ -13,7 +13,7 @@ use Rattle.line.specs.Frame.{content_of}
 use Rattle.line.specs.Laws.Frame.{zeros_few}
 use Rattle.line.proofs.Content.{content_is}
 use Rattle.mirror.specs.Mirror.{mirrored_byte}
-use Rattle.mirror.specs.Laws.{mirrored_byte_lt, remaining, remaining_all, remaining_step, remaining_none}
+use Rattle.mirror.specs.Laws.{remaining, remaining_all, remaining_step, remaining_none}
 use Rattle.tally.specs.declared.Tally.{Tally}
 use Rattle.tally.specs.Tally.{tally, tallied}
 use Rattle.tally.specs.Laws.{tallied_byte, tallied_last, tallied_runs}
@@ -38,62 +38,60 @@ pub returns-then-note-gt-LONGEST_NOTE : goal.returns-then-note-gt-LONGEST_NOTE
 unfolding zeros_in
 returns-then-note-gt-LONGEST_NOTE c = simp (tests, c.if-note-gt-LONGEST_NOTE.true)
 
-pub loop-i-init : goal.loop-i-init
-loop-i-init c =
+pub loop-v-init : goal.loop-v-init
+loop-v-init c =
     let note = c.args.note.now in
-    (ap (tallied (tally 0 0)) (ap (text_bits 8) (remaining_all note) ∙ sym (content_is note)), (omega arith, (omega arith, omega arith)))
+    record {
+      left = ap (tallied (tally 0 0)) (ap (text_bits 8) (remaining_all note) ∙ sym (content_is note));
+      closed = omega arith;
+      run = omega arith;
+    }
 
 pub count_byte-t-requires : goal.count_byte-t-requires
 count_byte-t-requires c =
-    let l = c.loop-i in
+    let l = c.loop-v in
+    let i = l.invariant in
     let note = c.args.note.now in
-    let rest = text_bits 8 (remaining note l.i l.m) in
-    let n = few note l.t rest c.if-note-gt-LONGEST_NOTE.false l.invariant.0 in
-    (omega (arith, l.invariant.1.0), (omega (arith, l.invariant.1.1.0), omega (arith, l.invariant.1.1.0)))
+    let n = few note l.t (text_bits 8 (remaining note l.v-index l.m)) c.if-note-gt-LONGEST_NOTE.false i.left in
+    (i.closed, (i.run, omega (arith, i.run)))
 
-pub loop-i-preserved : goal.loop-i-preserved
-loop-i-preserved c =
-    let l = c.loop-i in
+pub loop-v-preserved : goal.loop-v-preserved
+loop-v-preserved c =
+    let l = c.loop-v in
     let note = c.args.note.now in
-    let v = get_or note l.i 0 in
-    let rest = remaining note (l.i + 1) (mirrored_byte l.m v) in
-    let all = rw (remaining_step note l.i l.m c.loop-i-test.true) at l.invariant.0 in
+    let v = get_or note l.v-index 0 in
+    let rest = remaining note (l.v-index + 1) (mirrored_byte l.m v) in
+    let all = rw (remaining_step note l.v-index l.m c.loop-v-test.true) at l.invariant.left in
     let on = sym (tallied_byte l.t v rest) ∙ all in
-    let runs = tallied_runs l.t (low_bits 8 v) l.invariant.1.1.0 in
-    rw (c.count_byte-t.ensures, c.mirrored_byte-m.ensures)
-    (on, (runs.0, (runs.1, mirrored_byte_lt l.m v)))
+    let runs = tallied_runs l.t (low_bits 8 v) l.invariant.run in
+    rw (c.count_byte-t.ensures, c.mirrored_byte-m.ensures) (record { left = on; closed = runs.0; run = runs.1 })
 
 pub count_byte-t-requires-2 : goal.count_byte-t-requires-2
 count_byte-t-requires-2 c =
-    let l = c.loop-i in
+    let l = c.loop-v in
+    let i = l.invariant in
     let note = c.args.note.now in
-    let rest = text_bits 8 (remaining note l.i l.m) in
-    let n = few note l.t rest c.if-note-gt-LONGEST_NOTE.false l.invariant.0 in
-    (omega (arith, l.invariant.1.0), (omega (arith, l.invariant.1.1.0), omega (arith, l.invariant.1.1.0)))
-
-pub overflow_cast-check-2 : goal.overflow_cast-check-2
-overflow_cast-check-2 c =
-    let l = c.loop-i in
-    omega (arith, xor_lt 16 l.m 65535 l.invariant.1.1.1 (omega arith))
+    let n = few note l.t (text_bits 8 (remaining note l.v-index l.m)) c.if-note-gt-LONGEST_NOTE.false i.left in
+    (i.closed, (i.run, omega (arith, i.run)))
 
 pub count_byte-t-requires-3 : goal.count_byte-t-requires-3
 count_byte-t-requires-3 c =
-    let l = c.loop-i in
+    let l = c.loop-v in
     let note = c.args.note.now in
     let check = bit_xor l.m ones in
     let t = tallied l.t (low_bits 8 (check % 256)) in
-    let runs = tallied_runs l.t (low_bits 8 (check % 256)) l.invariant.1.1.0 in
-    let last = last_byte note l.t l.i l.m l.invariant.0 c.loop-i-test.false l.invariant.1.1.1 in
+    let runs = tallied_runs l.t (low_bits 8 (check % 256)) l.invariant.run in
+    let last = last_byte note l.t l.v-index l.m l.invariant.left c.loop-v-test.false (omega (arith, l.auto.m-fits)) in
     let n = few note t (text_bits 8 (check / 256 ∷ [])) c.if-note-gt-LONGEST_NOTE.false last in
     rw c.count_byte-t-2.ensures (runs.0, (runs.1, omega (arith, n, runs.1)))
 
 pub returns : goal.returns
 returns c =
-    let l = c.loop-i in
+    let l = c.loop-v in
     let note = c.args.note.now in
     let check = bit_xor l.m ones in
     let t = tallied l.t (low_bits 8 (check % 256)) in
-    let all = last_byte note l.t l.i l.m l.invariant.0 c.loop-i-test.false l.invariant.1.1.1 in
+    let all = last_byte note l.t l.v-index l.m l.invariant.left c.loop-v-test.false (omega (arith, l.auto.m-fits)) in
     let end : tallied t (low_bits 8 (check / 256)) ≡ tallied (tally 0 0) (content_of note) =
     sym (tallied_last t (check / 256)) ∙ all in
     let few = zeros_in_few note c.if-note-gt-LONGEST_NOTE.false in

@@ -1,6 +1,6 @@
 -- What the calls of a station do to the SDLC sender of channel A and to all that it goes by.
 -- Assumes nothing.
-use Rattle.std.specs.Prelude.{◌≡◌, refl, Bool, true, false, not, ◌&&◌, ℕ, eqb}
+use Rattle.std.specs.Prelude.{◌≡◌, refl, None, Bool, true, false, not, ◌&&◌, ℕ, eqb}
 use Rattle.std.proofs.Common.{sym, subst, ◌∙◌, eqb-true}
 use Rattle.std.proofs.Math.Path.{ap}
 use Rattle.common.specs.Mode.{in_sdlc}
@@ -166,7 +166,7 @@ module _ {c : Chip} {s : Framer} (h : Stands c s) where
 -- A channel that is set up
 
 abbrev after_set_up : Framer
-after_set_up = framer Mark not_counted (shared 0 false true ones)
+after_set_up = framer Mark not_counted (shared None true ones)
 
 set_up_reset : (l : Lines) (b : Channel) (s : Six)
     → let in_mode = control_a (control_a (chip (reset_with l) b s) 4) sdlc_mode in

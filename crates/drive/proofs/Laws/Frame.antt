@@ -1,6 +1,6 @@
 -- What a station's ticks put on the line: a flag, then the note's frame behind it. Demand 3 at
 -- work, by the laws of what is to come. Assumes nothing.
-use Rattle.std.specs.Prelude.{◌≡◌, refl, Bool, true, false, List, [], ◌∷◌, ◌++◌, length, replicate}
+use Rattle.std.specs.Prelude.{◌≡◌, refl, Some, Bool, true, false, List, [], ◌∷◌, ◌++◌, length, replicate}
 use Rattle.std.proofs.Common.{sym, ap, subst, ◌∙◌, arith, sub-one, length-append}
 use Prim.Native.Nat.{ℕ, zero, suc, ◌+◌, ◌-◌, ◌≤◌, ◌<◌}
 use Rattle.common.specs.Tools.{void}
@@ -8,7 +8,7 @@ use Rattle.line.specs.Check.{ones}
 use Rattle.line.specs.Frame.{flag_bits, frame}
 use Rattle.line.specs.declared.Insertion.{Insertion}
 use Rattle.shared.specs.declared.Shared.{Shared}
-use Rattle.shared.specs.Shared.{shared}
+use Rattle.shared.specs.Shared.{shared, full}
 use Rattle.sdlc.specs.declared.LineUnit.{LineUnit}
 use Rattle.sdlc.specs.declared.LineUnit.TheVariants.{Mark, Flag, Byte, Check, Abort}
 use Rattle.sdlc.specs.declared.Framer.{Framer}
@@ -86,7 +86,7 @@ module _ (k : Shared) where
       runs_on h (tick_chooses good 0 k Mark refl ∙ next_mark good 0 k refl) (flag_ends_lem 7 (tick_a c))
 
   -- while no byte waits a flag follows a flag
-  pub flag_again : (c : Chip) → Stands c (flag_sent k) → k.full ≡ false
+  pub flag_again : (c : Chip) → Stands c (flag_sent k) → full k ≡ false
       → RunsTo 8 c flag_bits (flag_sent k)
   flag_again c h e =
       runs_on h (tick_chooses good 0 k (Flag 0) refl ∙ next_flag_empty good 0 k refl 0 e)
@@ -126,7 +126,7 @@ opens c =
 
 -- it can begin: the first byte waits, the check is ones, the latch is clear
 abbrev pub beginning : ℕ → Framer
-beginning v = flag_sent (shared v true false ones)
+beginning v = flag_sent (shared (Some v) false ones)
 
 pub begins : (c : Chip) (v : ℕ) → Stands (frame_opened c v) (beginning v)
 unfolding frame_opened flag_ended
@@ -146,8 +146,8 @@ module _ (c : Chip) (v : ℕ) where
 
   opened_as : opened ≡ chip_with opened (beginning v)
   opened_as =
-      let full = ap (λ (s : Framer). s.shared.full) (begins c v).sends in
-      sym (own_framer opened (written_ends c v) full) ∙ ap (chip_with opened) (begins c v).sends
+      let waits = ap (λ (s : Framer). full s.shared) (begins c v).sends in
+      sym (own_framer opened (written_ends c v) waits) ∙ ap (chip_with opened) (begins c v).sends
 
   pub driven_frame : (n : ℕ) (vs : List ℕ)
       → driven n opened vs ≡ chip_with opened (after_ticks n (beginning v) vs)
@@ -164,11 +164,11 @@ module _ (c : Chip) (v : ℕ) where
 pub frame_begins : (v : ℕ) (vs : List ℕ) → flag_bits ++ to_come (beginning v) vs ≡ frame (v ∷ vs)
 frame_begins v vs =
     ap (λ (x : List Bool). flag_bits ++ x)
-    (sym (moves (start_stage {a = false} 8 0 v vs (omega arith) (omega arith)) refl).0)
-    ∙ at_start 8 0 (v ∷ vs) (omega arith) (omega arith)
+    (sym (moves (start_stage {a = false} 8 v vs (omega arith) (omega arith)) refl).0)
+    ∙ at_start 8 (v ∷ vs) (omega arith) (omega arith)
 
 pub frame_stage : (v : ℕ) (vs : List ℕ) → Stage false (beginning v) 7 vs
-frame_stage v vs = (moves (start_stage 8 0 v vs (omega arith) (omega arith)) refl).1
+frame_stage v vs = (moves (start_stage 8 v vs (omega arith) (omega arith)) refl).1
 
 pub come_length : (v : ℕ) (vs : List ℕ) → length (to_come (beginning v) vs) ≡ ticks_left (v ∷ vs)
 come_length v vs =

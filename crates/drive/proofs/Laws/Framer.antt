@@ -10,6 +10,7 @@ use Rattle.common.specs.Tools.{if_elim, by_test, void}
 use Rattle.common.specs.Mode.{in_blocks}
 use Rattle.common.specs.declared.Mode.{Mode}
 use Rattle.shared.specs.declared.Shared.{Shared}
+use Rattle.shared.specs.Shared.{full}
 use Rattle.sdlc.specs.declared.LineUnit.{LineUnit}
 use Rattle.sdlc.specs.declared.LineUnit.TheVariants.{Mark, Flag, Byte, Check, Abort}
 use Rattle.sdlc.specs.declared.Framer.{Framer}
@@ -42,44 +43,44 @@ use Rattle.drive.proofs.Laws.Look.{d2, look_same}
 
 -- a byte that is loaded was in the buffer, and is no longer there
 abbrev Loads : Bool → Framed → Type 0
-Loads full t =
-    (t.framer.shared.full ≡ (full && not t.loaded)) × ((t.loaded && not full) ≡ false)
+Loads was t =
+    (full t.framer.shared ≡ (was && not t.loaded)) × ((t.loaded && not was) ≡ false)
 
-none_loaded : (full : Bool) → (full ≡ (full && true)) × (false ≡ false)
+none_loaded : (was : Bool) → (was ≡ (was && true)) × (false ≡ false)
 none_loaded true = (refl, refl)
 none_loaded false = (refl, refl)
 
-some_loaded : (full : Bool) → full ≡ true → (false ≡ (full && false)) × (not full ≡ false)
+some_loaded : (was : Bool) → was ≡ true → (false ≡ (was && false)) × (not was ≡ false)
 some_loaded true e = (refl, refl)
 some_loaded false e = void e
 
 module _ (r : ℕ) (k : Shared) where
-  following_loads : (u : LineUnit) → Loads k.full (following good u r k)
+  following_loads : (u : LineUnit) → Loads (full k) (following good u r k)
   unfolding following
-  following_loads Mark = none_loaded k.full
+  following_loads Mark = none_loaded (full k)
   following_loads (Flag n) =
-      by_test (Loads k.full) k.full (some_loaded k.full) (λ e. none_loaded k.full)
+      by_test (Loads (full k)) (full k) (some_loaded (full k)) (λ e. none_loaded (full k))
   following_loads (Byte n v) =
-      by_test (Loads k.full) k.full (some_loaded k.full)
-      (λ e. if_elim (Loads k.full) (not k.latch && true) (none_loaded k.full)
-      (none_loaded k.full))
-  following_loads (Check n v) = none_loaded k.full
-  following_loads (Abort n) = none_loaded k.full
+      by_test (Loads (full k)) (full k) (some_loaded (full k))
+      (λ e. if_elim (Loads (full k)) (not k.latch && true) (none_loaded (full k))
+      (none_loaded (full k)))
+  following_loads (Check n v) = none_loaded (full k)
+  following_loads (Abort n) = none_loaded (full k)
 
-  goes_on_loads : (u : LineUnit) → Loads k.full (goes_on u r k)
-  goes_on_loads Mark = none_loaded k.full
-  goes_on_loads (Flag n) = none_loaded k.full
-  goes_on_loads (Byte n v) = none_loaded k.full
-  goes_on_loads (Check n v) = none_loaded k.full
-  goes_on_loads (Abort n) = none_loaded k.full
+  goes_on_loads : (u : LineUnit) → Loads (full k) (goes_on u r k)
+  goes_on_loads Mark = none_loaded (full k)
+  goes_on_loads (Flag n) = none_loaded (full k)
+  goes_on_loads (Byte n v) = none_loaded (full k)
+  goes_on_loads (Check n v) = none_loaded (full k)
+  goes_on_loads (Abort n) = none_loaded (full k)
 
-tick_loads : (s : Framer) → Loads s.shared.full (tick_sdlc good s)
+tick_loads : (s : Framer) → Loads (full s.shared) (tick_sdlc good s)
 unfolding tick_sdlc going
 tick_loads s =
     let k = s.shared in
     let r = s.insertion.run in
-    if_elim (Loads k.full) s.insertion.owed (none_loaded k.full)
-    (if_elim (Loads k.full) (no_bit_left s.unit) (following_loads r k s.unit)
+    if_elim (Loads (full k)) s.insertion.owed (none_loaded (full k))
+    (if_elim (Loads (full k)) (no_bit_left s.unit) (following_loads r k s.unit)
     (goes_on_loads r k s.unit))
 
 -- The other parts of the channel
@@ -131,16 +132,16 @@ module _ (c : Chip) (p : c.a.pointer ≡ 0) (g : Good (sending_a c))
       let latch = s.shared.latch in
       let after : Ticked → Chip = λ x.
       with_a c (with_status (with_transmit (with_sender (channel_with a s) x.sender)
-      ((not s.shared.full && on) || (x.loaded && on)))
+      ((not (full s.shared) && on) || (x.loaded && on)))
       (noticed (noticed a.status live (with_underrun live latch)) (with_underrun live latch)
       (with_underrun live x.sender.shared.latch))) in
       let put : Bool → Status → Chip = λ b x.
       let sent = with_sender a (framer_in a.sender t.framer) in
       with_a c (with_transmit (with_status sent x) b) in
-      let full = tick_loads s in
+      let loads = tick_loads s in
       ap after (tick_good (sending_a c) (framer_in a.sender s) g)
       ∙ ap₂ put
-      (pending_on s.shared.full t.framer.shared.full t.loaded on full.0 full.1)
+      (pending_on (full s.shared) (full t.framer.shared) t.loaded on loads.0 loads.1)
       (status_on a.status live clear latch t.framer.shared.latch (tick_set good s))
 
   write_with : (s : Framer) (v : ℕ) → write_a (chip_with c s) v ≡ chip_with c (filled_with s v)
@@ -155,7 +156,7 @@ module _ (c : Chip) (p : c.a.pointer ≡ 0) (g : Good (sending_a c))
   ready_with s =
       let blocks = sends_check c.a.sender.block in
       d2 (chip_with c s) p
-      ∙ ap (λ (m : Mode). not s.shared.full
+      ∙ ap (λ (m : Mode). not (full s.shared)
       && not (if in_blocks m then blocks else checking s.unit))
       (with_stands s).good.sdlc_mode_lem
 
@@ -207,13 +208,13 @@ module _ (c : Chip) (p : c.a.pointer ≡ 0) (g : Good (sending_a c))
       ∙ ap₂ (λ (b : Bool) (l : List Bool). b ∷ l) (bit_with f) (line_with n t.framer y.rest)
 
 -- a channel whose byte waits is itself such a channel
-pub own_framer : (c : Chip) → c.a.transmit ≡ false → c.a.sender.shared.full ≡ true
+pub own_framer : (c : Chip) → c.a.transmit ≡ false → full c.a.sender.shared ≡ true
     → chip_with c (framer_of c.a.sender) ≡ c
 unfolding live_of
 own_framer c t f =
     let a = c.a in
     let on = transmit_on a.registers.wr1 in
-    let pending = not a.sender.shared.full && on in
+    let pending = not (full a.sender.shared) && on in
     ap (λ (x : Status). with_a c (with_transmit (with_status a x) pending))
     (noticed_same a.status (live_of a))
     ∙ ap (λ (b : Bool). with_a c (with_transmit a (not b && on))) f

@@ -8,5 +8,5 @@ returns c =
     let a = c.args in
     let e = c.write_line_by.ensures in
     let one = writers_are_one a.note.now a.out.now a.at in
-    let by = rw (c.checks-checks.ensures, c.stamps-stamps.ensures, c.fours-fours.ensures) at e in
+    let by = rw c.make.ensures at e in
     record { value = by.value ∙ ap (λ (w : Written). w.answer) one; out_after = by.out_after ∙ ap (λ (w : Written). w.buffer) one }

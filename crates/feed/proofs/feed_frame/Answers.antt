@@ -1,5 +1,5 @@
 -- `feed::feed_frame` meets its contract. Assumes nothing.
-use mathlib.Core.Path.{sym, ap, ◌∙◌}
+use Rattle.std.proofs.Common.{◌≡◌, sym, ap, ◌∙◌, true, ◌&&◌}
 use lib.Dec.{ltb}
 use lib.ListN.{length}
 use borrow.Author.Tests.{ltb-true}
@@ -16,19 +16,22 @@ to_the_end-requires c =
     let k = c.args.k in
     let rest = c.args.rest.now in
     let fits = ltb (length rest) most_to_write in
-    let first = both_left (begins k) fits c.if-k-rest.true in
-    let few = ltb-true (length rest) most_to_write (both_right (begins k) fits c.if-k-rest.true) in
+    let test : begins k && fits ≡ true = rw (← c.is_some.ensures) c.if-begins-rest.true in
+    let first = both_left (begins k) fits test in
+    let few = ltb-true (length rest) most_to_write (both_right (begins k) fits test) in
     rw c.not_counted.ensures record { stage = begins_stage k rest first; rest_len_bound = begins_few k rest first few }
 
-pub returns-then-k-rest : goal.returns-then-k-rest
+pub returns-then-begins-rest : goal.returns-then-begins-rest
 unfolding frame_fed
-returns-then-k-rest c =
+returns-then-begins-rest c =
     let k = c.args.k in
     let rest = c.args.rest.now in
+    let fits = ltb (length rest) most_to_write in
+    let test : begins k && fits ≡ true = rw (← c.is_some.ensures) c.if-begins-rest.true in
     c.to_the_end.ensures
     ∙ ap (λ (i : Insertion). to_the_end (framer (Flag 0) i k) rest) c.not_counted.ensures
-    ∙ sym (if_true (to_the_end (flag_sent k) rest) (ran 0 (flag_sent k)) c.if-k-rest.true)
+    ∙ sym (if_true (to_the_end (flag_sent k) rest) (ran 0 (flag_sent k)) test)
 
 pub returns : goal.returns
 unfolding frame_fed
-returns c = simp (c.if-k-rest.false, c.not_counted.ensures)
+returns c = simp (← c.is_some.ensures, c.if-begins-rest.false, c.not_counted.ensures)

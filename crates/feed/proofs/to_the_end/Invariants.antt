@@ -7,8 +7,8 @@ use Rattle.feed.specs.Feeding.{after_ticks}
 use Rattle.feed.specs.Laws.Turns.{Going}
 use Rattle.feed.proofs.to_the_end.Given as goal
 
-abbrev pub invariant-loop-x : goal.invariant-loop-x
-invariant-loop-x l = let total = length (to_come l.initial.x l.rest) in Going total (after_ticks total l.initial.x l.rest) l.rest l.x l.i l.n
+abbrev pub invariant-loop-p : goal.invariant-loop-p
+invariant-loop-p l = let total = length (to_come l.initial.x l.rest) in Going total (after_ticks total l.initial.x l.rest) l.rest l.x l.i l.n
 
-abbrev pub decreases-loop-x : goal.decreases-loop-x
-decreases-loop-x l = length (to_come l.initial.x l.rest) - l.n
+abbrev pub decreases-loop-p : goal.decreases-loop-p
+decreases-loop-p l = length (to_come l.initial.x l.rest) - l.n

@@ -1,6 +1,6 @@
 -- Demand 3 at work: a sender that is fed before each tick is always in time, so what is to come
 -- goes out. Assumes nothing.
-use Rattle.std.specs.Prelude.{◌≡◌, refl, Bool, true, false, not, ◌&&◌, ◌||◌, List, [], ◌∷◌, ◌++◌, ℕ, zero, suc, ◌+◌, ◌≤◌, ◌<◌, ltb, length, if◌then◌else◌}
+use Rattle.std.specs.Prelude.{◌≡◌, refl, Some, Bool, true, false, not, ◌&&◌, ◌||◌, List, [], ◌∷◌, ◌++◌, ℕ, zero, suc, ◌+◌, ◌≤◌, ◌<◌, ltb, length, if◌then◌else◌}
 use Rattle.std.proofs.Common.{sym, ap, subst, ◌∙◌, arith, length-append}
 use Rattle.common.specs.Tools.{bool_or, both_left, both_right, not_true}
 use Rattle.line.specs.Bits.{text_bits}
@@ -11,7 +11,8 @@ use Rattle.line.specs.Laws.Bits.{text_bits_length}
 use Rattle.line.specs.Laws.Check.{check_bits_length}
 use Rattle.line.specs.Laws.Insertion.{stuff_length, zeros_bound}
 use Rattle.shared.specs.declared.Shared.{Shared}
-use Rattle.shared.specs.Shared.{shared}
+use Rattle.shared.specs.Shared.{shared, full, waiting_byte}
+use Rattle.shared.specs.Laws.Buffer.{buffer_full}
 use Rattle.sdlc.specs.declared.Framer.{Framer}
 use Rattle.sdlc.specs.declared.Framed.{Framed}
 use Rattle.sdlc.specs.Sending.{checking, tick_sdlc}
@@ -37,13 +38,13 @@ if_false x y e = rw e
 pub record Timely (x : Supplied) (n : ℕ) (bits : List Bool) : Type 0 where
   pub stage : Stage false x.framer n x.rest
   pub come : to_come x.framer x.rest ≡ bits
-  pub intime : in_time x.framer.shared.full n x.rest ≡ true
+  pub intime : in_time (full x.framer.shared) n x.rest ≡ true
 
 -- while a byte is still to be written no check is being sent
 none_checked : {s : Framer} {n v : ℕ} {rest : List ℕ} → Stage false s n (v ∷ rest)
     → checking s.unit ≡ false
-none_checked (opening k b f c n rest m p) = refl
-none_checked (in_byte k v r o b f c n rest m) = refl
+none_checked (opening k b c n rest m p) = refl
+none_checked (in_byte k v r o b c n rest m) = refl
 
 in_time_full : (n : ℕ) (rest : List ℕ) → in_time true n rest ≡ true
 in_time_full n [] = refl
@@ -54,9 +55,8 @@ pub supplies : {s : Framer} {n : ℕ} (rest : List ℕ) → Stage false s n rest
 unfolding supply
 supplies [] g = record { stage = g; come = refl; intime = refl }
 supplies {s} {n} (v ∷ rest) g =
-    let full = s.shared.full in
     let P : Supplied → Type 0 = λ x. Timely x n (to_come s (v ∷ rest)) in
-    bool_or full
+    bool_or (full s.shared)
     (λ f. subst P (sym (if_false _ _ (ap (λ (b : Bool). not b && not (checking s.unit)) f)))
     (record { stage = g; come = refl; intime = ap (λ (b : Bool). b || ltb (n + 1) 8) f }))
     (λ e.
@@ -81,7 +81,7 @@ ticks_on {s} {n} rest g some =
     let x = supply s rest in
     let f = supplies rest g in
     let t = takes f.stage f.intime (omega (arith, some, ap length f.come)) in
-    let k = since_after x.framer.shared.full t.next.shared.full n in
+    let k = since_after (full x.framer.shared) (full t.next.shared) n in
     record {
       since = k;
       stage =
@@ -120,23 +120,23 @@ ends (suc n) {s} rest g l =
 -- A frame that begins
 
 -- its first byte waits, and the latch is clear
-begins_as : (k : Shared) → begins k ≡ true → k ≡ shared k.buffer true false k.check
+begins_as : (k : Shared) → begins k ≡ true → k ≡ shared (Some (waiting_byte k)) false k.check
 begins_as k e =
-    let f = both_left k.full (not k.latch) e in
-    let l = not_true k.latch (both_right k.full (not k.latch) e) in
-    λ i. shared k.buffer (f i) (l i) k.check
+    let f = buffer_full k (both_left (full k) (not k.latch) e) in
+    let l = not_true k.latch (both_right (full k) (not k.latch) e) in
+    λ i. shared (f i) (l i) k.check
 
 pub begins_stage : (k : Shared) (rest : List ℕ) → begins k ≡ true
     → Stage false (flag_sent k) 7 rest
 begins_stage k rest e =
     subst (λ (x : Shared). Stage false (flag_sent x) 7 rest) (sym (begins_as k e))
-    (opening 0 k.buffer true k.check 7 rest (omega arith) tt)
+    (opening 0 (Some (waiting_byte k)) k.check 7 rest (omega arith) tt)
 
 pub begins_few : (k : Shared) (rest : List ℕ) → begins k ≡ true → length rest < most_to_write
     → length (to_come (flag_sent k) rest) ≤ 19696
 unfolding closed
 begins_few k rest e l =
-    let v = k.buffer in
+    let v = waiting_byte k in
     let c = k.check in
     let text = text_bits 8 (v ∷ rest) in
     let content = text ++ check_bits (check_over sdlc c text) in

@@ -1,5 +1,5 @@
 -- Wrong chips that do not tell the tales of Frames: SDLC receiving. Assumes nothing.
-use Rattle.std.specs.Prelude.{refl, Bool, true, false, not, ◌&&◌, ℕ, eqb, if◌then◌else◌}
+use Rattle.std.specs.Prelude.{is_none, unwrap_or, refl, Bool, true, false, ◌&&◌, ℕ, eqb, if◌then◌else◌}
 use Rattle.sdlc.specs.Hearing.{content, no_chars}
 use Rattle.settings.specs.Settings.{searches}
 use Rattle.chip.specs.Event.{Event}
@@ -68,8 +68,8 @@ does_not_tell_an_abort_refused t = other_number t.abort refl
 abbrev address_of_all_is_none : Happens
 address_of_all_is_none =
     but_a (λ was e is.
-    if is_bit 0 e && (searches is.registers.wr3 && (not was.receiver.content.chars.have
-    && eqb is.receiver.content.chars.held 0xFF))
+    if is_bit 0 e && (searches is.registers.wr3 && (is_none was.receiver.content.chars.held
+    && eqb (unwrap_or is.receiver.content.chars.held 0) 0xFF))
     then with_skip is true
     else is)
 

@@ -1,13 +1,13 @@
 -- The chip meets the receiving side: what a receive tick and a data read of a channel do to it, and
 -- what the reads answer. Assumes nothing.
-use Rattle.std.specs.Prelude.{◌≡◌, Bool, true, false, not, ◌&&◌, ◌||◌, List, [], ◌∷◌, ◌++◌, ℕ, eqb, ltb, if◌then◌else◌}
+use Rattle.std.specs.Prelude.{Option, Some, None, is_none, option_to_list, IfSome, ◌≡◌, Bool, true, false, not, ◌&&◌, ◌||◌, List, [], ◌∷◌, ◌++◌, ℕ, eqb, ltb, if◌then◌else◌}
 use Rattle.std.proofs.Math.Path.{refl}
 use Rattle.std.proofs.Common.{sym, ap, ap₂, ◌∙◌, append-nil}
 use Rattle.common.specs.Tools.{by_test, bool_or, void}
 use Rattle.common.specs.declared.Mode.TheVariants.{Sdlc}
 use Rattle.entry.specs.declared.Entry.{Entry}
 use Rattle.queue.specs.declared.Queue.{Queue}
-use Rattle.queue.specs.Queue.{room, pushed, taken, oldest, waits}
+use Rattle.queue.specs.Queue.{room, taken, oldest, waits}
 use Rattle.queue.specs.Holding.{Plain, Holds, entry_if}
 use Rattle.queue.specs.Laws.{push_holds}
 use Rattle.sdlc.specs.Hearing.{hear_sdlc}
@@ -32,18 +32,14 @@ use Rattle.history.specs.Receiving.Side.{side_in, side_of}
 use Rattle.history.specs.Receiving.Roles.{by_role}
 use Rattle.history.specs.Receiving.Quiet.{heard_part}
 
--- what a tick hands over is queued
-abbrev pub queued_if : Bool → Queue → Entry → Queue
-queued_if some q x = if some then pushed q x else q
-
--- and finds room
-abbrev pub room_if : Bool → Queue → Bool
-room_if some q = not some || ltb q.count room
+-- what a tick hands over finds room
+abbrev pub room_if : Option Entry → Queue → Bool
+room_if e q = is_none e || ltb q.count room
 
 abbrev pub heard_side : Bool → Side → Side
 heard_side b x =
     let h = hear_sdlc x.settings.addressing x.listener b in
-    side h.listener (queued_if h.some x.queue h.entry) x.settings
+    side h.listener (queued x.queue h.entry) x.settings
 
 abbrev pub read_side : Side → Side
 read_side x = side x.listener (taken x.queue) x.settings
@@ -58,7 +54,7 @@ heard_in_lem : (c : Channel) (b : Bool) → Hearing (side_in c).settings
 unfolding receive_tick settled
 heard_in_lem c b h =
     let g = receiving_in c in
-    ap (λ (x : Heard). side (listener_of x.receiver) (queued c.queue x) (heeded g))
+    ap (λ (x : Heard). side (listener_of x.receiver) (queued c.queue x.entry) (heeded g))
     (hear_sdlc_lem g c.receiver b h.mode h.on)
 
 -- with none waiting a read changes nothing
@@ -68,11 +64,11 @@ taken_none q e =
     by_test (λ (x : Queue). x ≡ q) (eqb q.count 0) (λ t. refl) (λ t. void (sym e ∙ ap not t))
 
 -- the queue takes what a tick hands over, if there is room for it
-pub queue_takes : {p o : Bool} {q : Queue} {es : List Entry} (some : Bool) (x : Entry)
-    → Holds p o q es → room_if some q ≡ true → Plain x
-    → Holds p o (queued_if some q x) (es ++ entry_if some x)
-queue_takes true x k r e = push_holds k r e
-queue_takes {es = es} false x k r e = rw (append-nil es) k
+pub queue_takes : {p o : Bool} {q : Queue} {es : List Entry} (x : Option Entry)
+    → Holds p o q es → room_if x q ≡ true → IfSome x Plain
+    → Holds p o (queued q x) (es ++ option_to_list x)
+queue_takes (Some x) k r e = push_holds k r e
+queue_takes {es = es} None k r e = rw (append-nil es) k
 
 -- a read, for every part that receiver and queue say
 pub read_in : {X : Type 0} (g : Receiving → Receiver → Queue → X) (c : Channel)

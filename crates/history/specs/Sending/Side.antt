@@ -5,6 +5,7 @@ use Rattle.std.proofs.Common.{ap}
 use Rattle.common.specs.Tools.{eqb_elim}
 use Rattle.common.specs.declared.Mode.{Mode}
 use Rattle.common.specs.declared.Mode.TheVariants.{Sdlc}
+use Rattle.shared.specs.Shared.{full}
 use Rattle.sdlc.specs.declared.Framing.{Framing}
 use Rattle.sdlc.specs.declared.Framer.{Framer}
 use Rattle.sdlc.specs.Sending.{framing}
@@ -72,7 +73,7 @@ abbrev pub side_of : Which → Chip → SenderSide
 side_of w c = side_in (chan w c)
 
 abbrev pub full_of : Which → Chip → Bool
-full_of w c = (chan w c).sender.shared.full
+full_of w c = full (chan w c).sender.shared
 
 abbrev pub latch_of : Which → Chip → Bool
 latch_of w c = (chan w c).sender.shared.latch

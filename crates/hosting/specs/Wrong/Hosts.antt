@@ -1,5 +1,6 @@
 -- Wrong chips that do not tell the tales of Hosts: late, idle or aborting. Assumes nothing.
 use Rattle.std.specs.Prelude.{refl, Bool, true, false, not, ◌&&◌, eqb, if◌then◌else◌}
+use Rattle.shared.specs.Shared.{full}
 use Rattle.sdlc.specs.declared.LineUnit.{LineUnit}
 use Rattle.sdlc.specs.declared.LineUnit.TheVariants.{Mark, Flag, Byte, Check, Abort}
 use Rattle.sdlc.specs.Sending.{aborting, checking, no_bit_left}
@@ -57,7 +58,7 @@ a_flag_more_between_two_notes =
     let s = was.sender in
     if is_tick 0 e && (checking s.unit && not (checking is.sender.unit))
     then with_registers is (store7 is.registers 1)
-    else (if is_tick 0 e && (eqb was.registers.wr7 1 && (no_bit_left s.unit && s.shared.full))
+    else (if is_tick 0 e && (eqb was.registers.wr7 1 && (no_bit_left s.unit && full s.shared))
     then with_registers (with_unit was (Flag 7)) (store7 was.registers 0)
     else is))
 

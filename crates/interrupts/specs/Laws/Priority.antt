@@ -1,21 +1,51 @@
 -- The highest of the six sources is one of them, if there is one, and none stands above it; so an
 -- acknowledge may take a source exactly when a pending one lies above all those in service.
 -- Assumes nothing.
-use Rattle.std.specs.Prelude.{◌≡◌, refl, Bool, true, false, not, ◌&&◌, ◌||◌, ℕ, ◌≤◌, ◌<◌, T, eqb, leb}
-use Rattle.std.proofs.Common.{sym, ◌∙◌, true≢false, arith, eqb→eq, leb→le, ltb-true, lt-ltb, ne_eqb}
-use Rattle.common.specs.Tools.{lt_or, and_left, and_right, both_of, both_of→, below, below→}
+use Rattle.std.specs.Prelude.{◌≡◌, refl, Bool, true, false, not, ◌&&◌, ◌||◌, ◌≤◌, T, leb, Option, None, Some, MatchOption}
+use Rattle.std.proofs.Common.{arith, leb→le, ltb-true, lt-ltb}
+use Rattle.common.specs.Tools.{void, and_left, and_right, both_of, both_of→}
+use Rattle.interrupts.specs.declared.Source.{Source}
+use Rattle.interrupts.specs.declared.Source.TheVariants.{AReceive, ATransmit, AExternal}
+use Rattle.interrupts.specs.declared.Source.TheVariants.{BReceive, BTransmit, BExternal}
 use Rattle.interrupts.specs.declared.Six.{Six}
-use Rattle.interrupts.specs.Interrupts.{sources, six, no_level, highest, may_take}
+use Rattle.interrupts.specs.Interrupts.{sources, six, place, highest, lies_above, may_take}
 use Rattle.interrupts.specs.Priority.{source_at, SourceAbove}
 
 -- What is to be seen of six sources, whichever of them are there
 
+-- the highest, if there is one, is there
+abbrev is_there : Six → Option Source → Bool
+is_there x None = true
+is_there x (Some s) = source_at x s
+
+-- this one is not there, or the highest is it or lies above it
+abbrev not_above : Six → Option Source → Source → Bool
+not_above x None k = not (source_at x k)
+not_above x (Some s) k = not (source_at x k) || leb (place s) (place k)
+
+abbrev of_each : (Source → Bool) → Bool
+of_each f =
+    f AReceive && (f ATransmit && (f AExternal && (f BReceive && (f BTransmit && f BExternal))))
+
+of_each→ : (f : Source → Bool) → T (of_each f) → (k : Source) → T (f k)
+of_each→ f t AReceive = and_left (f AReceive) _ t
+of_each→ f t ATransmit = and_left (f ATransmit) _ (and_right (f AReceive) _ t)
+of_each→ f t AExternal =
+    and_left (f AExternal) _ (and_right (f ATransmit) _ (and_right (f AReceive) _ t))
+of_each→ f t BReceive =
+    and_left (f BReceive) _
+    (and_right (f AExternal) _ (and_right (f ATransmit) _ (and_right (f AReceive) _ t)))
+of_each→ f t BTransmit =
+    and_left (f BTransmit) _ (and_right (f BReceive) _
+    (and_right (f AExternal) _ (and_right (f ATransmit) _ (and_right (f AReceive) _ t))))
+of_each→ f t BExternal =
+    and_right (f BTransmit) _ (and_right (f BReceive) _
+    (and_right (f AExternal) _ (and_right (f ATransmit) _ (and_right (f AReceive) _ t))))
+
 abbrev is_highest : Bool → Bool → Bool → Bool → Bool → Bool → Bool
 is_highest p q r s t u =
     let x = six (sources p q r) (sources s t u) in
-    let n = highest x in
-    (source_at x n || eqb n no_level)
-    && (leb n no_level && below (λ k. not (source_at x k) || leb n k) no_level)
+    is_there x (highest x) && of_each (not_above x (highest x))
 
 abbrev every : (Bool → Bool → Bool → Bool → Bool → Bool → Bool) → Bool
 every f =
@@ -38,6 +68,14 @@ every_is_highest : T (every is_highest)
 unfolding highest
 every_is_highest = tt
 
+holds : (b : Bool) → T b → b ≡ true
+holds true t = refl
+holds false t = absurd t
+
+implied : (s t : Bool) → T (not s || t) → s ≡ true → T t
+implied true t h e = h
+implied false t h e = void e
+
 -- The highest source
 
 module _ (x : Six) where
@@ -47,71 +85,70 @@ module _ (x : Six) where
       every→ is_highest every_is_highest x.a.receive x.a.transmit x.a.external
       x.b.receive x.b.transmit x.b.external
 
-  first : T (source_at x (highest x) || eqb (highest x) no_level)
-  first = and_left (source_at x (highest x) || eqb (highest x) no_level) _ seen
+  first : T (is_there x (highest x))
+  first = and_left (is_there x (highest x)) _ seen
 
-  rest : T (leb (highest x) no_level
-      && below (λ k. not (source_at x k) || leb (highest x) k) no_level)
-  rest = and_right (source_at x (highest x) || eqb (highest x) no_level) _ seen
+  rest : (k : Source) → T (not_above x (highest x) k)
+  rest =
+      of_each→ (not_above x (highest x)) (and_right (is_there x (highest x)) _ seen)
 
-  pub highest_most : highest x ≤ no_level
-  highest_most = leb→le (highest x) no_level (and_left (leb (highest x) no_level) _ rest)
+  -- it has one of the six places
+  pub highest_most : (s : Source) → highest x ≡ Some s → place s ≤ 5
+  highest_most s e = place_most s
+    where
+      place_most : (s : Source) → place s ≤ 5
+      place_most AReceive = omega arith
+      place_most ATransmit = omega arith
+      place_most AExternal = omega arith
+      place_most BReceive = omega arith
+      place_most BTransmit = omega arith
+      place_most BExternal = omega arith
 
-  or_true : (s t : Bool) → T (s || t) → (T t → ⊥) → s ≡ true
-  or_true true t h n = refl
-  or_true false t h n = absurd (n h)
+  pub highest_source : (s : Source) → highest x ≡ Some s → source_at x s ≡ true
+  highest_source s e = holds (source_at x s) (rw e at first)
 
-  pub highest_source : highest x < no_level → source_at x (highest x) ≡ true
-  highest_source l =
-      or_true (source_at x (highest x)) (eqb (highest x) no_level) first
-      (λ e. let z = eqb→eq (highest x) no_level e in omega arith)
-
-  implied : (s t : Bool) → T (not s || t) → s ≡ true → T t
-  implied true t h e = h
-  implied false t h e = absurd (true≢false (sym e))
-
-  source_below : (k : ℕ) → source_at x k ≡ true → k < no_level
-  source_below k e =
-      lt_or k no_level (λ l. l)
-      (λ l. let no : source_at x k ≡ false =
-      rw (
-        ne_eqb k 0 (λ z. omega arith),
-        ne_eqb k 1 (λ z. omega arith),
-        ne_eqb k 2 (λ z. omega arith),
-        ne_eqb k 3 (λ z. omega arith),
-        ne_eqb k 4 (λ z. omega arith),
-        ne_eqb k 5 (λ z. omega arith),
-      )
-      in absurd (true≢false (sym e ∙ no)))
-
-  pub highest_least : (k : ℕ) → source_at x k ≡ true → highest x ≤ k
-  highest_least k e =
-      let test : ℕ → Bool = λ k. not (source_at x k) || leb (highest x) k in
-      let low =
-      below→ test no_level (and_right (leb (highest x) no_level) _ rest) k (source_below k e) in
-      leb→le (highest x) k (implied (source_at x k) (leb (highest x) k) low e)
+  -- where a source is there, so is the highest, which is this one or lies above it
+  pub highest_least : (k : Source) → source_at x k ≡ true
+      → MatchOption (highest x) ⊥ (λ s. place s ≤ place k)
+  highest_least k e = least (highest x) (rest k)
+    where
+      least : (h : Option Source) → T (not_above x h k) → MatchOption h ⊥ (λ s. place s ≤ place k)
+      least None t = rw e at t
+      least (Some s) t = leb→le (place s) (place k) (implied (source_at x k) _ t e)
 
 -- 4: "acknowledge with no pending source above all those in service"
 
 pub taken_above : (pending service : Six) → may_take pending service ≡ true
     → SourceAbove pending service
 unfolding may_take
-taken_above p s e =
-    let l : highest p < highest s = ltb-true (highest p) (highest s) e in
-    let m = highest_most s in
-    record {
-      place = highest p;
-      waits = highest_source p (omega arith);
-      above = λ k t. let n = highest_least s k t in omega arith;
+taken_above p s e = above (highest p) (highest s) refl refl e
+  where
+    above : (w v : Option Source) → highest p ≡ w → highest s ≡ v → lies_above w v ≡ true
+        → SourceAbove p s
+    above None v i j e = void e
+    above (Some w) None i j e = record {
+      source = w;
+      waits = highest_source p w i;
+      above = λ k t. absurd (rw j at (highest_least s k t));
+    }
+    above (Some w) (Some v) i j e = record {
+      source = w;
+      waits = highest_source p w i;
+      above = λ k t.
+          let l = ltb-true (place w) (place v) e in
+          let m : place v ≤ place k = rw j at (highest_least s k t) in
+          omega arith;
     }
 
 pub above_taken : (pending service : Six) → SourceAbove pending service
     → may_take pending service ≡ true
 unfolding may_take
-above_taken p s h =
-    let m = highest_least p h.place h.waits in
-    let q = source_below p h.place h.waits in
-    lt_or (highest s) no_level
-    (λ l. let x = h.above (highest s) (highest_source s l) in
-    lt-ltb (highest p) (highest s) (omega arith))
-    (λ l. lt-ltb (highest p) (highest s) (omega arith))
+above_taken p s h = taken (highest p) (highest s) refl refl
+  where
+    taken : (w v : Option Source) → highest p ≡ w → highest s ≡ v → lies_above w v ≡ true
+    taken None v i j = absurd (rw i at (highest_least p h.source h.waits))
+    taken (Some w) None i j = refl
+    taken (Some w) (Some v) i j =
+        let l : place w ≤ place h.source = rw i at (highest_least p h.source h.waits) in
+        let m = h.above v (highest_source s v j) in
+        lt-ltb (place w) (place v) (omega arith)

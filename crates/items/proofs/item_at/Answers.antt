@@ -1,12 +1,17 @@
--- `items::item_at` meets its contract: each return by the facts on its way. Assumes nothing.
-use Rattle.items.proofs.Branch.{tests}
+-- `items::item_at` meets its contract: the bytes that are left begin with it. Assumes nothing.
+use Rattle.std.proofs.Common.{drop, lt-ltb, le-ltb}
 use Rattle.items.specs.Item.{item_at}
+use Rattle.items.proofs.Laws.{left_from, length_behind}
 use Rattle.items.proofs.item_at.Goals as goal
 
-pub returns-then-left_from-lt-ITEM : goal.returns-then-left_from-lt-ITEM
+pub returns-in_default : goal.returns-in_default
 unfolding item_at
-returns-then-left_from-lt-ITEM c = simp (tests, c.if-left_from-lt-ITEM.true, ← c.left_from.ensures) c.empty.ensures
+returns-in_default c =
+    let left = left_from c.args.bytes.now c.args.at c.min.result c.min.ensures in
+    rw (c.empty.ensures, lt-ltb _ _ (rw left at c.in_default.len_below))
 
 pub returns : goal.returns
 unfolding item_at
-returns c = simp (tests, c.behind.ensures, c.if-left_from-lt-ITEM.false, ← c.bytes_behind.ensures, ← c.three_at.ensures, ← c.byte_from-3.ensures, ← c.byte_from-2.ensures, ← c.byte_from.ensures, ← c.byte_from-x.ensures, ← c.byte_from-kind.ensures, ← c.left_from.ensures)
+returns c =
+    let left = left_from c.args.bytes.now c.args.at c.min.result c.min.ensures in
+    rw (c.min-2.ensures, c.bytes_behind.ensures, c.three_bytes.ensures, c.from-kind.ensures, left, le-ltb _ _ (rw left at c.in-len8-up.len_at_least), length_behind 8 (drop c.args.at c.args.bytes.now))

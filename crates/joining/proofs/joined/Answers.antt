@@ -11,10 +11,3 @@ returns-clause-joins c =
     let a = c.args in
     let is = ap (bit_xor a.body) c.advance.ensures in
     λ front back h b k. is ∙ rw (h, b, k) at (checks_join a.rule front back)
-
-pub returns-clause-value : goal.returns-clause-value
-unfolding joined_by
-returns-clause-value c =
-    let a = c.args in
-    let is = ap (bit_xor a.body) c.advance.ensures in
-    is

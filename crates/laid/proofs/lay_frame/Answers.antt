@@ -12,7 +12,7 @@ pub returns : goal.returns
 unfolding end_stamped frame_stamped
 returns c =
     let a = c.args in
-    let put : List ℕ → Plate = λ l. content_stamped a.checks.now a.stamps.now a.fours.now l a.note.now in
+    let put : List ℕ → Plate = λ l. content_stamped a.tables.now.checks a.tables.now.stamps a.tables.now.fours l a.note.now in
     let e = c.put_content-end.ensures in
     let opening = c.put_flag.ensures in record {
       value = e.value ∙ ap (λ (l : List ℕ). (put l).press.at) opening;

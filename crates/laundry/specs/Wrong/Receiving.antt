@@ -1,5 +1,5 @@
 -- Wrong chips that do not tell the tales of Receiving: Monosync, heard. Assumes nothing.
-use Rattle.std.specs.Prelude.{refl, true, false, not, ◌&&◌, ◌-◌, ◌%◌, eqb, if◌then◌else◌}
+use Rattle.std.specs.Prelude.{unwrap_or, refl, true, false, not, ◌&&◌, ◌-◌, ◌%◌, eqb, if◌then◌else◌}
 use Rattle.common.specs.Mode.{in_blocks}
 use Rattle.line.specs.Bits.{low_bits}
 use Rattle.line.specs.Check.{ones, check_over}
@@ -45,7 +45,7 @@ abbrev characters_enter_at_once : Happens
 characters_enter_at_once =
     but_a (λ was e is.
     let r = was.receiver.reception in
-    let held = low_bits 8 is.receiver.reception.block.held in
+    let held = low_bits 8 (unwrap_or is.receiver.reception.block.held 0) in
     if is_bit 0 e && (not r.hunt && eqb r.count 7)
     then with_heard_check is
     (check_over (polynomial_in is.registers) was.receiver.check held)
@@ -72,7 +72,7 @@ drops_a_later_sync =
     let d = r.block in
     if is_bit 0 e
     then with_reception a
-    (reception r.hunt r.bits r.count (block true d.turn d.have d.held))
+    (reception r.hunt r.bits r.count (block true d.turn d.held))
     else a)
 
 pub drops_a_later_sync_refused : Told drops_a_later_sync → ⊥

@@ -1,35 +1,35 @@
 -- `lent::write_line_by` meets its contract: a refusal leaves the buffer alone. Assumes nothing.
-use mathlib.Core.Path.{refl, sym, ap, ◌∙◌}
-use Rattle.zeros.specs.declared.Counted.TheVariants.{Zeros}
-use Rattle.zeros.specs.Laws.{test_said, room_there}
-use Rattle.lent.proofs.Laws.{unfit_refused, short_refused, room_laid}
+use Rattle.std.proofs.Common.{◌≡◌, ◌-◌, Ok, false, length, ltb, drop, refl, ap}
+use Rattle.std.proofs.lemmas.Result.{err_from_is_err_and}
+use Rattle.line.specs.Frame.{ticks_of}
+use Rattle.zeros.specs.Laws.{refused_alike, line_there, room_there}
+use Rattle.lent.specs.Lent.{zeros_stamped, write_by}
 use Rattle.lent.proofs.write_line_by.Goals as goal
 
-pub returns-then-lacks_room : goal.returns-then-lacks_room
-returns-then-lacks_room c =
+pub returns-in_err-line_fits : goal.returns-in_err-line_fits
+unfolding write_by
+returns-in_err-line_fits c =
     let a = c.args in
-    let fit = c.if-note_fits.true in
-    let t = test_said a.note.now a.out.now a.at c.note_fits.ensures fit c.room_from.ensures c.lacks_room.ensures in
-    let e = short_refused a.checks.now a.stamps.now a.fours.now a.note.now a.out.now a.at c.note_fits.ensures fit (t ∙ c.if-lacks_room.true) in
-    rw e (record { value = refl; out_after = refl })
+    let note = a.note.now in
+    let t = a.tables.now in
+    let zeros = zeros_stamped t.checks t.stamps t.fours (drop a.at a.out.now) note in
+    let refused = rw c.saturating_sub.ensures at (refused_alike note c.saturating_sub.result zeros _ c.in_err-line_fits.ensures) in
+    let p = err_from_is_err_and c.from_residual.result c.from_residual.ensures.1 in
+    rw (refused, p.1, p.2) (record { value = refl; out_after = refl })
 
-pub lay_at-requires-clause-at_in_bounds : goal.lay_at-requires-clause-at_in_bounds
-lay_at-requires-clause-at_in_bounds c =
+pub lay_at-requires : goal.lay_at-requires
+lay_at-requires c =
     let a = c.args in
-    let fit = c.if-note_fits.true in
-    let t = test_said a.note.now a.out.now a.at c.note_fits.ensures fit c.room_from.ensures c.lacks_room.ensures in
-    (room_there a.note.now a.out.now a.at (t ∙ c.if-lacks_room.false)).1
-
-pub returns-then-note_fits : goal.returns-then-note_fits
-returns-then-note_fits c =
-    let a = c.args in
-    let fit = c.if-note_fits.true in
-    let t = test_said a.note.now a.out.now a.at c.note_fits.ensures fit c.room_from.ensures c.lacks_room.ensures in
-    let e = room_laid a.checks.now a.stamps.now a.fours.now a.note.now a.out.now a.at c.note_fits.ensures fit (t ∙ c.if-lacks_room.false) in
-    rw e (record { value = ap Zeros c.lay_at.ensures.value; out_after = c.lay_at.ensures.out_after })
+    let there = line_there a.note.now c.saturating_sub.result c.in_ok-line_fits.field-0 c.in_ok-line_fits.ensures in
+    record {
+      note_value = there.0;
+      at_in_bounds = (room_there a.note.now a.out.now a.at (rw c.saturating_sub.ensures at there.1)).1;
+    }
 
 pub returns : goal.returns
+unfolding write_by
 returns c =
     let a = c.args in
-    let e = unfit_refused a.checks.now a.stamps.now a.fours.now a.note.now a.out.now a.at (sym c.note_fits.ensures ∙ c.if-note_fits.false) in
-    rw e (record { value = refl; out_after = refl })
+    let there = line_there a.note.now c.saturating_sub.result c.in_ok-line_fits.field-0 c.in_ok-line_fits.ensures in
+    let room : ltb (length a.out.now - a.at) (ticks_of a.note.now) ≡ false = rw c.saturating_sub.ensures at there.1 in
+    rw (there.0, room) (record { value = ap Ok c.lay_at.ensures.value; out_after = c.lay_at.ensures.out_after })

@@ -27,6 +27,15 @@ unfolding low_bits
 low_none zero v h = refl
 low_none (suc n) v h = absurd (omega arith)
 
+-- what a loop that counts up from 0 has before it: one bit more of n, and none
+pub low_more : (n i v : ℕ) → i < n → low_bits (n - i) v ≡ odd v ∷ low_bits (n - (i + 1)) (v / 2)
+low_more n i v h =
+    let next : n - i - 1 ≡ n - (i + 1) = omega arith in
+    rw next at (low_step (n - i) v (omega arith))
+
+pub low_over : (n i v : ℕ) → n ≤ i → low_bits (n - i) v ≡ []
+low_over n i v h = low_none (n - i) v (omega arith)
+
 -- the low bits, and then those above them
 pub low_bits_split : (n m v : ℕ) → low_bits (n + m) v ≡ low_bits n v ++ low_bits m (v / 2 ^ n)
 unfolding low_bits

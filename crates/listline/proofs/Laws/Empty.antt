@@ -5,6 +5,7 @@ use Rattle.std.proofs.Common.{sym, ap, ◌∙◌, arith}
 use Rattle.std.proofs.Math.Dec.{eqb-suc-zero}
 use Rattle.common.specs.Tools.{bool_or, if_elim, by_test, void}
 use Rattle.shared.specs.declared.Shared.{Shared}
+use Rattle.shared.specs.Shared.{full}
 use Rattle.sdlc.specs.declared.LineUnit.{LineUnit}
 use Rattle.sdlc.specs.declared.LineUnit.TheVariants.{Mark, Flag, Byte, Check, Abort}
 use Rattle.sdlc.specs.declared.Framer.{Framer}
@@ -20,7 +21,7 @@ use Rattle.feed.specs.Laws.Feeding.{ticks_on}
 -- The latch and the buffer
 
 abbrev NoneWaits : Shared → Type 0
-NoneWaits k = k.latch ≡ true → k.full ≡ false
+NoneWaits k = k.latch ≡ true → full k ≡ false
 
 abbrev After : Framed → Type 0
 After t = NoneWaits t.framer.shared
@@ -29,9 +30,9 @@ module _ (r : ℕ) (k : Shared) (e : NoneWaits k) where
   following_none : (u : LineUnit) → After (following good u r k)
   unfolding following
   following_none Mark = e
-  following_none (Flag n) = if_elim After k.full (λ l. refl) e
+  following_none (Flag n) = if_elim After (full k) (λ l. refl) e
   following_none (Byte n v) =
-      by_test After k.full (λ f l. refl)
+      by_test After (full k) (λ f l. refl)
       (λ f. if_elim After (not k.latch && true) (λ l. f) (λ l. f))
   following_none (Check n v) = e
   following_none (Abort n) = e
@@ -55,8 +56,8 @@ tick_none s e =
 -- a byte is written only while the latch is clear
 clear_yet : {s : Framer} {n v : ℕ} {rest : List ℕ} → Stage false s n (v ∷ rest)
     → s.shared.latch ≡ false
-clear_yet (opening k b f c n rest m p) = refl
-clear_yet (in_byte k v r o b f c n rest m) = refl
+clear_yet (opening k b c n rest m p) = refl
+clear_yet (in_byte k v r o b c n rest m) = refl
 
 supply_none : {s : Framer} {n : ℕ} (rest : List ℕ) → Stage false s n rest → NoneWaits s.shared
     → NoneWaits (supply s rest).framer.shared
@@ -70,15 +71,15 @@ supply_none {s} (v ∷ rest) g e =
 
 pub record Rests (s : Framer) : Type 0 where
   pub behind : s ≡ flag_sent s.shared
-  pub empty : s.shared.full ≡ false
+  pub empty : full s.shared ≡ false
 
 ended_rests : {s : Framer} {n : ℕ} {rest : List ℕ} → Stage false s n rest → NoneWaits s.shared
     → frame_ended s ≡ true → Rests s
-ended_rests (opening k b f c n rest m p) e h = void h
-ended_rests (in_byte k v r o b f c n rest m) e h = void h
-ended_rests (in_check k v r o b f c n) e h = void h
-ended_rests (closing zero b f c n) e h = record { behind = refl; empty = e refl }
-ended_rests (closing (suc k) b f c n) e h = void (sym (eqb-suc-zero k) ∙ h)
+ended_rests (opening k b c n rest m p) e h = void h
+ended_rests (in_byte k v r o b c n rest m) e h = void h
+ended_rests (in_check k v r o b c n) e h = void h
+ended_rests (closing zero b c n) e h = record { behind = refl; empty = e refl }
+ended_rests (closing (suc k) b c n) e h = void (sym (eqb-suc-zero k) ∙ h)
 
 pub rests : (n : ℕ) {s : Framer} {m : ℕ} (rest : List ℕ) → Stage false s m rest
     → NoneWaits s.shared → length (to_come s rest) ≡ n → Rests (after_ticks n s rest)

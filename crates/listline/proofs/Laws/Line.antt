@@ -4,6 +4,7 @@ use Rattle.std.specs.Prelude.{◌≡◌, refl, Bool, true, false, not, ◌&&◌,
 use Rattle.std.proofs.Common.{ap, ap₂, ◌∙◌, append_assoc}
 use Rattle.common.specs.Tools.{void}
 use Rattle.line.specs.Frame.{flag_bits}
+use Rattle.shared.specs.Shared.{full}
 use Rattle.flags.specs.declared.Between.{Between}
 use Rattle.flags.specs.declared.Between.TheVariants.{SharedFlag, TwoFlags}
 use Rattle.flags.specs.Flags as flags
@@ -40,7 +41,7 @@ use Rattle.listline.proofs.Laws.Empty.{rests}
 record Behind (c : Chip) : Type 0 where
   own : Shared
   stands : Stands c (flag_sent own)
-  empty : own.full ≡ false
+  empty : full own ≡ false
 
 -- nothing is done to prepare it
 good_can : (g : Sending) → Good g → can_send g ≡ true

@@ -9,4 +9,4 @@ pub returns : goal.returns
 unfolding looked_up
 returns c =
     let byte : c.args.v % 256 ≡ c.args.v = omega (arith, c.ranges.v.fits) in
-    rw (byte, c.size.ensures, c.wide.ensures)
+    rw (byte, c.from-2.ensures, c.from.ensures)

@@ -1,61 +1,41 @@
 -- `notes::scan` meets its contract: the count so far, carried over what is left of the list, is always the whole list's answer. Assumes nothing.
-use mathlib.Core.Path.{sym, ◌∙◌}
-use native.Mathlib.Omega.{arith}
-use borrow.Author.Tests.{le-ltb, lt-ltb}
-use Rattle.notes.specs.declared.Scanned.TheVariants.{Notes, Refused}
+use Rattle.std.specs.Prelude.{◌≡◌, ◌+◌, ◌≤◌, false, eqb, length, Ok, Err, Some, None}
+use Rattle.std.proofs.Common.{sym, ◌∙◌, arith, le-ltb}
+use Rattle.std.proofs.lemmas.Bool.Decides.{nat_tests}
+use Rattle.head.specs.NoteHead.{length_bytes, head_of}
 use Rattle.notes.specs.NoteList.{rest_from, read_list, first_note, longest_list}
 use Rattle.notes.specs.Laws.Reading.{one_more, walk_end, walk_note, walk_bad, scanned_walk}
-use Rattle.notes.proofs.Branch.{tests}
 use Rattle.notes.proofs.scan.Goals as goal
-
-pub returns-then-list-gt-LONGEST_LIST : goal.returns-then-list-gt-LONGEST_LIST
-unfolding read_list
-returns-then-list-gt-LONGEST_LIST c = simp (lt-ltb longest_list _ c.if-list-gt-LONGEST_LIST.true)
-
-pub returns-then-list-eq0 : goal.returns-then-list-eq0
-unfolding read_list
-returns-then-list-eq0 c = simp c.if-list-eq0.true
-
-pub returns-then-list-ne-VERSION : goal.returns-then-list-ne-VERSION
-unfolding read_list
-returns-then-list-ne-VERSION c = simp (tests, c.if-list-ne-VERSION.true, c.if-list-eq0.false, le-ltb longest_list _ c.if-list-gt-LONGEST_LIST.false)
 
 pub notes-init : goal.notes-init
 unfolding read_list
 notes-init c =
     let list = c.args.list.now in
-    simp (tests, c.if-list-ne-VERSION.false, c.if-list-eq0.false, le-ltb longest_list _ c.if-list-gt-LONGEST_LIST.false)
-    (sym (scanned_walk (rest_from list first_note)), omega arith, omega arith)
-
-pub overflow_add-i : goal.overflow_add-i
-overflow_add-i c = omega (arith, c.in-Note.ensures.within)
-
-pub overflow_add-i-in-Note : goal.overflow_add-i-in-Note
-overflow_add-i-in-Note c = omega (arith, c.in-Note.ensures.within)
-
-pub overflow_add-n : goal.overflow_add-n
-overflow_add-n c = omega (arith, c.in-Note.ensures.within)
-
-pub notes-smaller : goal.notes-smaller
-notes-smaller c = omega (arith, c.in-Note.ensures.within)
+    let some : eqb (length list) 0 ≡ false = sym c.if-is_empty.ensures in
+    let first : 1 ≤ length list = grind (arith, nat_tests) in
+    simp (c.if-list-ne-VERSION.false, some, le-ltb longest_list _ c.if-list-gt-LONGEST_LIST.false)
+    (sym (scanned_walk (rest_from list first_note)), omega arith, first)
 
 pub notes-preserved : goal.notes-preserved
 notes-preserved c =
     let l = c.notes in
     let list = c.args.list.now in
-    let e = sym c.in-Note.ensures.value in
-    (sym (walk_note one_more Notes Refused l.n list l.i _ e) ∙ l.invariant.0, omega (arith, c.in-Note.ensures.within), omega (arith, c.in-Note.ensures.within))
+    let stands : head_of list l.i ≡ Ok (Some c.in-Ok-Some.k) = cc in
+    let k = c.in-Ok-Some.k in
+    let within = rw c.in-Ok-Some.field-0-is at c.in-Ok-Some.ensures.within in
+    let at : l.i + (2 + k) ≡ l.i + length_bytes + k = omega arith in
+    let walked = rw (← at) at (sym (walk_note one_more Ok Err l.n list l.i k stands)) in
+    (walked ∙ l.invariant.0, omega arith, omega (arith, within))
 
-pub returns-in-End : goal.returns-in-End
-returns-in-End c =
+pub returns-in-Ok-None : goal.returns-in-Ok-None
+returns-in-Ok-None c =
     let l = c.notes in
     let list = c.args.list.now in
-    let e = sym c.in-End.ensures.value in
-    sym (walk_end one_more Notes Refused l.n list l.i e) ∙ l.invariant.0
+    let stands : head_of list l.i ≡ Ok None = cc in
+    sym (walk_end one_more Ok Err l.n list l.i stands) ∙ l.invariant.0
 
-pub returns-in-Bad : goal.returns-in-Bad
-returns-in-Bad c =
+pub returns-in-Err : goal.returns-in-Err
+returns-in-Err c =
     let l = c.notes in
     let list = c.args.list.now in
-    let e = sym c.in-Bad.ensures.value in
-    sym (walk_bad one_more Notes Refused l.n list l.i _ e) ∙ l.invariant.0
+    sym (walk_bad one_more Ok Err l.n list l.i _ (sym c.in-Err.ensures.value)) ∙ l.invariant.0

@@ -1,5 +1,5 @@
 -- Reading a list and putting it together undo each other. Assumes nothing.
-use Rattle.std.specs.Prelude.{◌≡◌, not, List, [], ◌∷◌, ◌++◌, ltb, length, get_or, take, drop, if◌then◌else◌}
+use Rattle.std.specs.Prelude.{Ok, Some, ◌≡◌, not, List, [], ◌∷◌, ◌++◌, ltb, length, get_or, take, drop, if◌then◌else◌}
 use Rattle.std.proofs.Math.Path.{refl}
 use Rattle.std.proofs.Common.{sym, ap, ap₂, subst, ◌∙◌, arith, add-zero, add-one, length-append}
 use Rattle.std.proofs.Common.{length-drop, drop_of_length-le, take-append-drop, drop-cons}
@@ -13,7 +13,6 @@ use Rattle.common.specs.Tools.{eqb_elim, if_elim}
 use Rattle.common.specs.declared.Refusal.TheVariants.{NoList}
 use Rattle.line.specs.Line.{note_fits}
 use Rattle.line.specs.Bits.{Below, below_none, below_more}
-use Rattle.head.specs.declared.Head.TheVariants.{Note}
 use Rattle.head.specs.NoteHead.{length_bytes, length_at, text_at, head_of}
 use Rattle.head.specs.Laws.{head_end, head_elim, head_note, text_at_length}
 use Rattle.notes.specs.NoteList.{version, first_note, longest_list, notes_bytes, list_of}
@@ -134,7 +133,7 @@ rest_back (note ∷ notes) list i (fits_more fits all) d =
     let rest : drop (i + length_bytes + k) list ≡ notes_bytes notes =
     sym (drop-drop k (i + length_bytes) list) ∙ ap (drop k) after
     ∙ drop-append_seam note (notes_bytes notes) in
-    let stands : head_of list i ≡ Note k =
+    let stands : head_of list i ≡ Ok (Some k) =
     rw e at (head_note list i (omega arith) (omega arith) (rw e fits) (omega arith)) in
     rest_note list i k stands
     ∙ ap₂ in_front text (rest_back notes list (i + length_bytes + k) all rest)

@@ -1,16 +1,15 @@
 -- `opening::ticked` meets its contract: the ticks that are left, made from the chip so far, lead to the same chip. Assumes nothing.
-use mathlib.Core.Path.{sym, ◌∙◌}
+use Rattle.std.proofs.Common.{◌≡◌, ◌+◌, ◌-◌, ◌<◌, sym, ◌∙◌, arith}
 use Rattle.chip.specs.Chip.{transmit_call}
 use Rattle.drive.specs.Drive.{tick_a}
-use Rattle.drive.proofs.Laws.Frame.{driven_step, driven_none}
+use Rattle.drive.proofs.Laws.Frame.{driven_step}
 use Rattle.opening.proofs.ticked.Goals as goal
 
-pub loop-left-preserved : goal.loop-left-preserved
+pub loop-preserved : goal.loop-preserved
 unfolding tick_a transmit_call
-loop-left-preserved c =
-    let l = c.loop-left in
-    simp c.transmit_tick-o.ensures (sym (driven_step l.left l.c c.loop-left-test.true) ∙ l.invariant)
-
-pub returns : goal.returns
-returns c =
-    let l = c.loop-left in sym (driven_none l.left l.c c.loop-left-test.false) ∙ l.invariant
+loop-preserved c =
+    let l = c.loop in
+    let left = c.args.n - l.counter in
+    let some : 0 < left = omega (arith, c.loop-test.true) in
+    let fewer : c.args.n - (l.counter + 1) ≡ left - 1 = omega arith in
+    rw fewer (simp c.transmit_tick.ensures (sym (driven_step left l.c some) ∙ l.invariant))

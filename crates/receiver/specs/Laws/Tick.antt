@@ -1,11 +1,11 @@
 -- A tick in SDLC, in Monosync and in Bisync, and that what it hands over is plain. Assumes nothing.
-use Rattle.std.specs.Prelude.{◌≡◌, refl, Bool, true}
+use Rattle.std.specs.Prelude.{IfSome, ◌≡◌, refl, Bool, true}
 use Rattle.std.proofs.Common.{ap, ◌∙◌}
 use Rattle.common.specs.Mode.{in_blocks, of_blocks}
 use Rattle.common.specs.Tools.{if_elim}
 use Rattle.common.specs.declared.Mode.{Mode}
 use Rattle.common.specs.declared.Mode.TheVariants.{Monosync, Bisync, Sdlc}
-use Rattle.queue.specs.Holding.{Plain, plain}
+use Rattle.queue.specs.Holding.{Plain}
 use Rattle.bytesync.specs.Hearing.{hear_block}
 use Rattle.sdlc.specs.Hearing.{hear_sdlc}
 use Rattle.sdlc.specs.Laws.Plain as listening
@@ -21,14 +21,14 @@ unfolding hear
 hear_sdlc_lem g s b m o = ap (λ (k : Mode). hear_in k g s b) m ∙ rw o
 
 abbrev PlainHeard : Heard → Type 0
-PlainHeard h = Plain h.entry
+PlainHeard h = IfSome h.entry Plain
 
 pub hear_plain : (g : Receiving) → g.mode ≡ Sdlc → (s : Receiver) (b : Bool)
-    → Plain (hear g s b).entry
+    → IfSome (hear g s b).entry Plain
 unfolding hear
 hear_plain g m s b =
     let e : hear g s b ≡ hear_in Sdlc g s b = ap (λ (k : Mode). hear_in k g s b) m in
-    rw e (if_elim PlainHeard g.on (listening.hear_plain g.addressing (listener_of s) b) plain)
+    rw e (if_elim PlainHeard g.on (listening.hear_plain g.addressing (listener_of s) b) tt)
 
 pub hear_monosync : (g : Receiving) (s : Receiver) (b : Bool) → g.mode ≡ Monosync
     → hear g s b ≡ hear_in_blocks g s b

@@ -1,5 +1,5 @@
 -- Wrong chips that do not tell the tales of Modes: what a change of mode does. Assumes nothing.
-use Rattle.std.specs.Prelude.{refl, false, ◌&&◌, eqb, if◌then◌else◌}
+use Rattle.std.specs.Prelude.{refl, false, ◌&&◌, eqb, if◌then◌else◌, None}
 use Rattle.line.specs.Check as check
 use Rattle.sender.specs.Sender.{idled}
 use Rattle.channel.specs.Channel.{with_sender, with_pointer, with_transmit}
@@ -48,7 +48,7 @@ mode_change_keeps_the_character_refused t = other_number t.idled refl
 -- a change of mode drops the byte in A's buffer
 abbrev mode_change_empties_the_buffer : Happens
 mode_change_empties_the_buffer =
-    but_a (λ was e is. if is_change 0 was e is then with_buffer is 0 false else is)
+    but_a (λ was e is. if is_change 0 was e is then with_buffer is None else is)
 
 pub mode_change_empties_the_buffer_refused : Told mode_change_empties_the_buffer → ⊥
 unfolding telling

@@ -24,7 +24,7 @@ abbrev reset_keeps_the_buffer : Happens
 reset_keeps_the_buffer =
     but_a (λ was e is.
     if is_command 0 3 was e
-    then with_buffer is was.sender.shared.buffer was.sender.shared.full
+    then with_buffer is was.sender.shared.buffer
     else is)
 
 pub reset_keeps_the_buffer_refused : Told reset_keeps_the_buffer → ⊥

@@ -9,6 +9,7 @@ use Rattle.line.specs.Check.{top, complement}
 use Rattle.line.specs.Insertion.{run_after}
 use Rattle.line.specs.declared.Insertion.{Insertion}
 use Rattle.shared.specs.declared.Shared.{Shared}
+use Rattle.shared.specs.Shared.{full, waiting_byte}
 use Rattle.sdlc.specs.declared.LineUnit.{LineUnit}
 use Rattle.sdlc.specs.declared.LineUnit.TheVariants.{Mark, Flag, Byte, Check, Abort}
 use Rattle.sdlc.specs.declared.Framing.{Framing}
@@ -50,10 +51,10 @@ module _ (g : Framing) (r : ℕ) (k : Shared) where
   following_sound Mark = ((refl, refl), omega arith)
   following_sound (Abort n) = ((refl, refl), omega arith)
   following_sound (Flag n) =
-      if_elim SoundFramed k.full (run_few r (odd k.buffer), omega arith)
+      if_elim SoundFramed (full k) (run_few r (odd (waiting_byte k)), omega arith)
       ((refl, refl), omega arith)
   following_sound (Byte n v) =
-      if_elim SoundFramed k.full (run_few r (odd k.buffer), omega arith)
+      if_elim SoundFramed (full k) (run_few r (odd (waiting_byte k)), omega arith)
       (if_elim SoundFramed (not k.latch && g.included)
       (run_few r (top (complement k.check)), omega arith) ((refl, refl), omega arith))
   following_sound (Check n v) = ((refl, refl), omega arith)
@@ -113,7 +114,7 @@ accept_sound g c k o x d b a l f =
       part = omega
           (arith, ltb-true c.count last_bit e);
     })
-    (λ e. if_elim SoundListened (wrong g c.have _) (content_at_sound false true o a)
+    (λ e. if_elim SoundListened (wrong g c.held _) (content_at_sound false true o a)
     (record { run = a; led = l; fits = f; part = omega arith }))
 
 module _ (g : Addressing) (s : Listener) (t : SoundContent s.content) where

@@ -11,7 +11,7 @@ use Rattle.line.specs.Check.{top, shifted}
 use Rattle.line.specs.Frame.{flag_bits}
 use Rattle.line.specs.Insertion.{counted}
 use Rattle.shared.specs.declared.Shared.{Shared}
-use Rattle.shared.specs.Shared.{latched}
+use Rattle.shared.specs.Shared.{full, waiting_byte, latched}
 use Rattle.sdlc.specs.declared.LineUnit.{LineUnit}
 use Rattle.sdlc.specs.declared.LineUnit.TheVariants.{Mark, Flag, Byte, Check, Abort}
 use Rattle.sdlc.specs.declared.Framing.{Framing}
@@ -86,24 +86,26 @@ module _ (g : Framing) (r : ℕ) (k : Shared) where
     unfolding following
     next_check n v = rw h
 
-    pub next_flag_full : (n : ℕ) → k.full ≡ true → next g (Flag n) r k ≡ start_byte g r k
+    pub next_flag_full : (n : ℕ) → full k ≡ true
+        → next g (Flag n) r k ≡ start_byte g r (waiting_byte k) k
     unfolding following
     next_flag_full n f = rw (h, f)
 
-    pub next_flag_empty : (n : ℕ) → k.full ≡ false → next g (Flag n) r k ≡ start_flag k
+    pub next_flag_empty : (n : ℕ) → full k ≡ false → next g (Flag n) r k ≡ start_flag k
     unfolding following
     next_flag_empty n f = rw (h, f)
 
-    pub next_byte_full : (n v : ℕ) → k.full ≡ true → next g (Byte n v) r k ≡ start_byte g r k
+    pub next_byte_full : (n v : ℕ) → full k ≡ true
+        → next g (Byte n v) r k ≡ start_byte g r (waiting_byte k) k
     unfolding following
     next_byte_full n v f = rw (h, f)
 
-    pub next_byte_check : (n v : ℕ) → k.full ≡ false → k.latch ≡ false → g.included ≡ true
+    pub next_byte_check : (n v : ℕ) → full k ≡ false → k.latch ≡ false → g.included ≡ true
         → next g (Byte n v) r k ≡ start_check r (latched k)
     unfolding following
     next_byte_check n v f l i = rw (h, f, l, i)
 
-    pub next_byte_flag : (n v : ℕ) → k.full ≡ false → not k.latch && g.included ≡ false
+    pub next_byte_flag : (n v : ℕ) → full k ≡ false → not k.latch && g.included ≡ false
         → next g (Byte n v) r k ≡ start_flag (latched k)
     unfolding following
     next_byte_flag n v f l = rw (h, f, l)

@@ -86,7 +86,7 @@ pushed_within : (g : Addressing) (s : Listener) (o : ℕ) (b : Bool)
     → (x : Bool)
     → let c = s.content.chars in
     let out = oldest_bit s.content.delay in
-    let more = chars (c.count + 1) (shift_in out c.part) c.have c.held in
+    let more = chars (c.count + 1) (shift_in out c.part) c.held in
     push g s o x b
     ≡ unheard (listener o (spilled s.content.delay b) more (check_step sdlc s.check out) x)
 unfolding push accept

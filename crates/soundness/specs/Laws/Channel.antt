@@ -1,9 +1,10 @@
 -- A channel reset gives what a history gives, and every event of a channel keeps it. Assumes
 -- nothing.
-use Rattle.std.specs.Prelude.{Bool, ◌&&◌, ℕ, ◌≤◌, eqb}
+use Rattle.std.specs.Prelude.{Option, Some, None, Bool, ◌&&◌, ℕ, ◌≤◌, eqb}
 use Rattle.std.proofs.Common.{arith}
 use Rattle.common.specs.Mode.{synchronous, same_mode}
 use Rattle.common.specs.Tools.{if_elim}
+use Rattle.entry.specs.declared.Entry.{Entry}
 use Rattle.queue.specs.declared.Queue.{Queue}
 use Rattle.queue.specs.Queue.{taken, waits, error_reset}
 use Rattle.queue.specs.Holding.{SoundQueue}
@@ -13,7 +14,6 @@ use Rattle.sender.specs.Sender.{tick, written, aborted, check_preset, latch_clea
 use Rattle.sender.specs.Sound.{SoundSender}
 use Rattle.sender.specs.Laws.Sound as senders
 use Rattle.receiver.specs.declared.Receiver.{Receiver}
-use Rattle.receiver.specs.declared.Heard.{Heard}
 use Rattle.receiver.specs.Receiver.{enter_hunt, preset_check, hear}
 use Rattle.receiver.specs.Sound.{SoundReceiver}
 use Rattle.receiver.specs.Laws.Sound as receivers
@@ -177,8 +177,9 @@ transmit_sound c h =
     settled_sound c (after_tick c (tick g c.sender))
     (sender_sound c s h (senders.tick_sound g c.sender h.sender))
 
-queued_sound : (q : Queue) (t : Heard) → SoundQueue q → SoundQueue (queued q t)
-queued_sound q t h = if_elim SoundQueue t.some (queues.push_sound q t.entry h) h
+queued_sound : (q : Queue) (e : Option Entry) → SoundQueue q → SoundQueue (queued q e)
+queued_sound q None h = h
+queued_sound q (Some e) h = queues.push_sound q e h
 
 pub receive_sound : (c : Channel) (b : Bool) → SoundChannel c → SoundChannel (receive_tick c b)
 unfolding receive_tick
@@ -188,7 +189,7 @@ receive_sound c b h =
     settled_sound c (heard_by c t) record {
       sender = h.sender;
       receiver = receivers.hear_sound g c.receiver h.receiver b;
-      queue = queued_sound c.queue t h.queue;
+      queue = queued_sound c.queue t.entry h.queue;
       pointer = h.pointer;
     }
 

@@ -1,5 +1,6 @@
 -- Wrong chips that do not tell the tales of Characters: asynchronous sending. Assumes nothing.
 use Rattle.std.specs.Prelude.{refl, true, not, ◌&&◌, ◌+◌, ◌-◌, ◌*◌, ◌/◌, ◌%◌, eqb, if◌then◌else◌}
+use Rattle.shared.specs.Shared.{full}
 use Rattle.asynchronous.specs.Sending.{no_character}
 use Rattle.settings.specs.Settings.{store4, store5, stop_field, auto_enables, sender_on, breaks}
 use Rattle.channel.specs.Events.{data_written}
@@ -49,8 +50,8 @@ off_drops_a_character_refused t = other_list t.finished_off refl
 abbrev keeps_what_its_buffer_has : Happens
 keeps_what_its_buffer_has =
     but_a (λ was e is.
-    if is_data 0 e && was.sender.shared.full
-    then with_buffer is was.sender.shared.buffer true
+    if is_data 0 e && full was.sender.shared
+    then with_buffer is was.sender.shared.buffer
     else is)
 
 pub keeps_what_its_buffer_has_refused : Told keeps_what_its_buffer_has → ⊥

@@ -3,6 +3,8 @@ use Rattle.std.specs.Prelude.{refl, true, false, not, ◌&&◌, ◌+◌, ◌-◌
 use Rattle.common.specs.Mode.{in_sdlc}
 use Rattle.line.specs.Bits.{odd, one_if}
 use Rattle.line.specs.Check.{sdlc, check_over}
+use Rattle.shapes.specs.declared.Length.TheVariants.{Five}
+use Rattle.shared.specs.Shared.{full, waiting_byte}
 use Rattle.shapes.specs.Sent.{bits_sent, sent_bits}
 use Rattle.sdlc.specs.declared.LineUnit.TheVariants.{Mark, Flag, Byte}
 use Rattle.sdlc.specs.Sending.{insertion, aborting, checking, no_bit_left}
@@ -26,9 +28,9 @@ shapes_in_sdlc =
     if is_load 0 was e is && (in_sdlc (mode_in r) && eqb (sent_field r.wr5) 0)
     then with_unit
     (if check_included r.wr5
-    then with_sent_check is (check_over sdlc k.check (sent_bits 5 k.buffer))
+    then with_sent_check is (check_over sdlc k.check (sent_bits Five (waiting_byte k)))
     else is)
-    (Byte (bits_sent 5 k.buffer - 1) (k.buffer / 2))
+    (Byte (bits_sent Five (waiting_byte k) - 1) (waiting_byte k / 2))
     else is)
 
 pub shapes_in_sdlc_refused : Told shapes_in_sdlc → ⊥
@@ -40,7 +42,7 @@ abbrev counts_ones_anew_at_each_byte : Happens
 counts_ones_anew_at_each_byte =
     but_a (λ was e is.
     if is_load 0 was e is
-    then with_insertion is (insertion (one_if (odd was.sender.shared.buffer)) false)
+    then with_insertion is (insertion (one_if (odd (waiting_byte was.sender.shared))) false)
     else is)
 
 pub counts_ones_anew_at_each_byte_refused : Told counts_ones_anew_at_each_byte → ⊥
@@ -108,7 +110,7 @@ abbrev d2_leaves_the_check_out : Happens
 d2_leaves_the_check_out =
     saying (λ c e w.
     let s = c.a.sender in
-    if is_read 0 e && (eqb c.a.pointer 0 && (checking s.unit && not s.shared.full))
+    if is_read 0 e && (eqb c.a.pointer 0 && (checking s.unit && not (full s.shared)))
     then Gave (answer_value w + 4)
     else w)
 
@@ -122,7 +124,7 @@ abort_keeps_the_buffer =
     but_a (λ was e is.
     let k = was.sender.shared in
     if aborting is.sender.unit && not (aborting was.sender.unit)
-    then with_buffer is k.buffer k.full
+    then with_buffer is k.buffer
     else is)
 
 pub abort_keeps_the_buffer_refused : Told abort_keeps_the_buffer → ⊥

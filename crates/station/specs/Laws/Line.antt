@@ -1,6 +1,6 @@
 -- What `station::send_list` puts on the line. Its contract names the chip, `chip_after`, and the
 -- report; the line of the ticks that make that chip is `line_after`. Assumes nothing.
-use Rattle.std.specs.Prelude.{◌≡◌, List, [], ◌∷◌, ◌++◌, ℕ, length}
+use Rattle.std.specs.Prelude.{◌≡◌, Ok, List, [], ◌∷◌, ◌++◌, ℕ, length}
 use Rattle.std.proofs.Common.{sym, ap, ◌∙◌}
 use Rattle.line.specs.Frame.{flag_bits}
 use Rattle.flags.specs.declared.Between.{Between}
@@ -15,8 +15,7 @@ use Rattle.listline.specs.ListLine.{line_after}
 use Rattle.listline.proofs.Laws.Fits.{read_fits}
 use Rattle.listline.proofs.Laws.Line.{list_line_lem, list_line_reset}
 use Rattle.report.specs.Report.{reported, report_of}
-use Rattle.told.specs.declared.Listed.TheVariants as listed
-use Rattle.station.specs.Station.{listed_of}
+use Rattle.station.specs.Station.{total, listed_of}
 
 module _ (between : Between) (list : List ℕ) (note : List ℕ) (notes : List (List ℕ))
     (e : read_list list ≡ whole (note ∷ notes)) where
@@ -37,17 +36,17 @@ module _ (between : Between) (list : List ℕ) (note : List ℕ) (notes : List (
 
   -- the ticks in all are the length of that line, its first flag with it
   pub list_ticks : listed_of (report_of between list)
-      ≡ listed.All (length all) (length (flag_bits ++ line_behind between all))
+      ≡ Ok (total (length all) (length (flag_bits ++ line_behind between all)))
   list_ticks =
       ap (λ (r : Reading). listed_of (reported between r)) e
-      ∙ ap (listed.All (length all)) (sym (line_length between all))
+      ∙ ap (λ (t : ℕ). Ok (total (length all) t)) (sym (line_length between all))
 
 -- of no note nothing is sent, and there is no tick
 pub none_sent_lem : (between : Between) (c : Chip) (list : List ℕ) → read_list list ≡ whole []
     → (line_after between c (read_list list) ≡ [])
-    × (listed_of (report_of between list) ≡ listed.All 0 0)
+    × (listed_of (report_of between list) ≡ Ok (total 0 0))
 none_sent_lem between c list e = (
   ap (line_after between c) e,
   ap (λ (r : Reading). listed_of (reported between r)) e
-      ∙ ap (listed.All 0) (sym (line_length between [])),
+      ∙ ap (λ (t : ℕ). Ok (total 0 t)) (sym (line_length between [])),
 )

@@ -1,6 +1,6 @@
 -- The laws of what is to come: a tick in time takes the first bit, a write takes none. Assumes
 -- nothing.
-use Rattle.std.specs.Prelude.{◌≡◌, refl, Bool, true, List, [], ◌∷◌, ◌++◌, ℕ, zero, suc, ◌+◌, ◌/◌, ◌≤◌, ltb, length}
+use Rattle.std.specs.Prelude.{◌≡◌, refl, Bool, true, Option, Some, None, is_some, List, [], ◌∷◌, ◌++◌, ℕ, zero, suc, ◌+◌, ◌/◌, ◌≤◌, ltb, length}
 use Rattle.std.proofs.Common.{sym, ap, ◌∙◌, append_assoc, arith, ltb-true}
 use Rattle.std.proofs.Math.Bool.{false}
 use Rattle.common.specs.Tools.{void}
@@ -9,7 +9,7 @@ use Rattle.line.specs.Check.{sdlc, top, shifted, complement, check_over, top_bit
 use Rattle.line.specs.Insertion.{owes, run_after, zero_if, stuff}
 use Rattle.line.specs.Frame.{flag_bits}
 use Rattle.line.specs.Laws.Check.{check_join}
-use Rattle.shared.specs.Shared.{shared}
+use Rattle.shared.specs.Shared.{shared, full}
 use Rattle.sdlc.specs.declared.LineUnit.TheVariants.{Flag, Byte, Check, Abort}
 use Rattle.sdlc.specs.declared.Framer.{Framer}
 use Rattle.sdlc.specs.Sending.{framed, tick_sdlc}
@@ -64,9 +64,13 @@ check_starts r c = stuffed r (top (complement c)) (top_bits 15 (shifted (complem
 
 -- Counts
 
-since_same : (f : Bool) (n : ℕ) → since_after f f n ≡ n + 1
-since_same true n = refl
-since_same false n = refl
+-- the count behind a tick that leaves the buffer as it is
+abbrev since_kept : Option ℕ → ℕ → ℕ
+since_kept b n = since_after (is_some b) (is_some b) n
+
+since_same : (b : Option ℕ) (n : ℕ) → since_kept b n ≡ n + 1
+since_same (Some v) n = refl
+since_same None n = refl
 
 pub too_late : (n : ℕ) → ltb (n + 1) 8 ≡ true → 7 ≤ n → ⊥
 too_late n e h = omega (arith, ltb-true (n + 1) 8 e)
@@ -79,12 +83,12 @@ pub record Takes (a : Bool) (s : Framer) (n : ℕ) (rest : List ℕ) : Type 0 wh
   pub next : Framer
   pub ticks : tick_sdlc good s ≡ framed sent loaded next
   pub head : to_come s rest ≡ sent ∷ to_come next rest
-  pub stage : Stage a next (since_after s.shared.full next.shared.full n) rest
+  pub stage : Stage a next (since_after (full s.shared) (full next.shared) n) rest
 
 module _ {a : Bool} {s : Framer} {n : ℕ} {rest : List ℕ} where
   by : {sent loaded : Bool} {next : Framer} → tick_sdlc good s ≡ framed sent loaded next
       → to_come s rest ≡ sent ∷ to_come next rest
-      → Stage a next (since_after s.shared.full next.shared.full n) rest → Takes a s n rest
+      → Stage a next (since_after (full s.shared) (full next.shared) n) rest → Takes a s n rest
   by {sent} {loaded} {next} e h g = record {
     sent = sent;
     loaded = loaded;
@@ -95,76 +99,76 @@ module _ {a : Bool} {s : Framer} {n : ℕ} {rest : List ℕ} where
   }
 
 pub takes : {a : Bool} {s : Framer} {n : ℕ} {rest : List ℕ} → Stage a s n rest
-    → in_time s.shared.full n rest ≡ true → 1 ≤ length (to_come s rest) → Takes a s n rest
-takes (opening (suc k) b f c n rest m p) t l =
-    by (tick_flag good (shared b f false c) k 0) refl
-    (opening k b f c (since_after f f n) rest (rw (since_same f n) (omega arith)) p)
-takes (opening zero b true c n rest m p) t l =
-    let x = shared b true false c in
+    → in_time (full s.shared) n rest ≡ true → 1 ≤ length (to_come s rest) → Takes a s n rest
+takes (opening (suc k) b c n rest m p) t l =
+    by (tick_flag good (shared b false c) k 0) refl
+    (opening k b c (since_kept b n) rest (rw (since_same b n) (omega arith)) p)
+takes (opening zero (Some b) c n rest m p) t l =
+    let x = shared (Some b) false c in
     let d = check_over sdlc c (low_bits 8 b) in
     by (tick_chooses good 0 x (Flag 0) refl ∙ next_flag_full good 0 x refl 0 refl) (load 0 c b rest)
-    (in_byte 7 (b / 2) (run_after 0 (odd b)) (owes 0 (odd b)) b false d 0 rest (omega arith))
-takes (opening zero b false c n [] m p) t l = absurd p
-takes (opening zero b false c n (v ∷ rest) m p) t l = absurd (too_late n t (omega arith))
-takes (in_byte k v r true b f c n rest m) t l =
-    by (tick_owed good (shared b f false c) (Byte k v) r) refl
-    (in_byte k v r false b f c (since_after f f n) rest (rw (since_same f n) (omega arith)))
-takes (in_byte (suc k) v r false b f c n rest m) t l =
-    let x = shared b f false c in
+    (in_byte 7 (b / 2) (run_after 0 (odd b)) (owes 0 (odd b)) None d 0 rest (omega arith))
+takes (opening zero None c n [] m p) t l = absurd p
+takes (opening zero None c n (v ∷ rest) m p) t l = absurd (too_late n t (omega arith))
+takes (in_byte k v r true b c n rest m) t l =
+    by (tick_owed good (shared b false c) (Byte k v) r) refl
+    (in_byte k v r false b c (since_kept b n) rest (rw (since_same b n) (omega arith)))
+takes (in_byte (suc k) v r false b c n rest m) t l =
+    let x = shared b false c in
     by (tick_byte good x k v r) (byte_on_lem r c k v (waiting x rest))
-    (in_byte k (v / 2) (run_after r (odd v)) (owes r (odd v)) b f c (since_after f f n) rest
-    (rw (since_same f n) (omega arith)))
-takes (in_byte zero v r false b true c n rest m) t l =
-    let x = shared b true false c in
+    (in_byte k (v / 2) (run_after r (odd v)) (owes r (odd v)) b c (since_kept b n) rest
+    (rw (since_same b n) (omega arith)))
+takes (in_byte zero v r false (Some b) c n rest m) t l =
+    let x = shared (Some b) false c in
     let d = check_over sdlc c (low_bits 8 b) in
     by (tick_chooses good r x (Byte 0 v) refl ∙ next_byte_full good r x refl 0 v refl)
     (unfold low_bits in (load r c b rest))
-    (in_byte 7 (b / 2) (run_after r (odd b)) (owes r (odd b)) b false d 0 rest (omega arith))
-takes (in_byte zero v r false b false c n [] m) t l =
-    let x = shared b false false c in
+    (in_byte 7 (b / 2) (run_after r (odd b)) (owes r (odd b)) None d 0 rest (omega arith))
+takes (in_byte zero v r false None c n [] m) t l =
+    let x = shared None false c in
     let y = complement c in
     by (tick_chooses good r x (Byte 0 v) refl ∙ next_byte_check good r x refl 0 v refl refl refl)
     (unfold low_bits in (check_starts r c))
-    (in_check 15 (shifted y) (run_after r (top y)) (owes r (top y)) b false c (n + 1))
-takes (in_byte zero v r false b false c n (x ∷ rest) m) t l = absurd (too_late n t (omega arith))
-takes (in_check k v r true b f c n) t l =
-    by (tick_owed good (shared b f true c) (Check k v) r) refl
-    (in_check k v r false b f c (since_after f f n))
-takes (in_check (suc k) v r false b f c n) t l =
-    by (tick_check good (shared b f true c) k v r)
+    (in_check 15 (shifted y) (run_after r (top y)) (owes r (top y)) None c (n + 1))
+takes (in_byte zero v r false None c n (x ∷ rest) m) t l = absurd (too_late n t (omega arith))
+takes (in_check k v r true b c n) t l =
+    by (tick_owed good (shared b true c) (Check k v) r) refl
+    (in_check k v r false b c (since_kept b n))
+takes (in_check (suc k) v r false b c n) t l =
+    by (tick_check good (shared b true c) k v r)
     (unfold top_bits in (stuffed r (top v) (top_bits k (shifted v)) flag_bits))
-    (in_check k (shifted v) (run_after r (top v)) (owes r (top v)) b f c (since_after f f n))
-takes (in_check zero v r false b f c n) t l =
-    let x = shared b f true c in
+    (in_check k (shifted v) (run_after r (top v)) (owes r (top v)) b c (since_kept b n))
+takes (in_check zero v r false b c n) t l =
+    let x = shared b true c in
     by (tick_chooses good r x (Check 0 v) refl ∙ next_check good r x refl 0 v)
-    (unfold top_bits stuff in refl) (closing 7 b f c (since_after f f n))
-takes (closing (suc k) b f c n) t l =
-    by (tick_flag good (shared b f true c) k 0) refl (closing k b f c (since_after f f n))
-takes (closing zero b f c n) t l = absurd (omega arith)
-takes (cut_off (suc k) b f c n) t l =
-    by (tick_abort good (shared b f true c) k 0) refl (cut_off k b f c (since_after f f n))
-takes (cut_off zero b f c n) t l =
-    let x = shared b f true c in
+    (unfold top_bits stuff in refl) (closing 7 b c (since_kept b n))
+takes (closing (suc k) b c n) t l =
+    by (tick_flag good (shared b true c) k 0) refl (closing k b c (since_kept b n))
+takes (closing zero b c n) t l = absurd (omega arith)
+takes (cut_off (suc k) b c n) t l =
+    by (tick_abort good (shared b true c) k 0) refl (cut_off k b c (since_kept b n))
+takes (cut_off zero b c n) t l =
+    let x = shared b true c in
     by (tick_chooses good 0 x (Abort 0) refl ∙ next_abort good 0 x refl 0) refl
-    (closing 7 b f c (since_after f f n))
+    (closing 7 b c (since_kept b n))
 
 -- Writes
 
 -- into the empty buffer: the byte moves from what is to be written to what waits
 pub moves : {a : Bool} {s : Framer} {n v : ℕ} {rest : List ℕ} → Stage a s n (v ∷ rest)
-    → s.shared.full ≡ false
+    → full s.shared ≡ false
     → (to_come s (v ∷ rest) ≡ to_come (filled_with s v) rest) × Stage a (filled_with s v) n rest
-moves (opening k b true c n rest m p) e = void (sym e)
-moves {v = v} {rest = rest} (opening k b false c n _ m p) e = (refl, opening k v true c n rest m tt)
-moves (in_byte k x r o b true c n rest m) e = void (sym e)
-moves {v = v} {rest = rest} (in_byte k x r o b false c n _ m) e =
-    (refl, in_byte k x r o v true c n rest m)
+moves (opening k (Some b) c n rest m p) e = void (sym e)
+moves {v = v} {rest = rest} (opening k None c n _ m p) e = (refl, opening k (Some v) c n rest m tt)
+moves (in_byte k x r o (Some b) c n rest m) e = void (sym e)
+moves {v = v} {rest = rest} (in_byte k x r o None c n _ m) e =
+    (refl, in_byte k x r o (Some v) c n rest m)
 
 -- once the latch is set: the byte is another frame's
 pub later : {a : Bool} {s : Framer} {n : ℕ} (v : ℕ) → Stage a s n [] → s.shared.latch ≡ true
     → (to_come s [] ≡ to_come (filled_with s v) []) × Stage a (filled_with s v) n []
-later v (opening k b f c n rest m p) e = void e
-later v (in_byte k x r o b f c n rest m) e = void e
-later v (in_check k x r o b f c n) e = (refl, in_check k x r o v true c n)
-later v (closing k b f c n) e = (refl, closing k v true c n)
-later v (cut_off k b f c n) e = (refl, cut_off k v true c n)
+later v (opening k b c n rest m p) e = void e
+later v (in_byte k x r o b c n rest m) e = void e
+later v (in_check k x r o b c n) e = (refl, in_check k x r o (Some v) c n)
+later v (closing k b c n) e = (refl, closing k (Some v) c n)
+later v (cut_off k b c n) e = (refl, cut_off k (Some v) c n)

@@ -2,7 +2,7 @@
 -- Seven ones leave the SDLC receiver deaf, a deaf one hands over nothing up to and including the
 -- next flag, and an end mark comes at a flag alone: so no end is told of a frame that was aborted.
 -- For any receiver, address search on or off. Assumes nothing.
-use Rattle.std.specs.Prelude.{◌≡◌, Bool, not, ◌&&◌, ◌||◌, eqb, ltb, replicate, if◌then◌else◌}
+use Rattle.std.specs.Prelude.{Option, Some, None, option_to_list, ◌≡◌, Bool, not, ◌&&◌, ◌||◌, eqb, ltb, replicate, if◌then◌else◌}
 use Rattle.std.proofs.Math.Path.{refl, ap}
 use Rattle.std.proofs.Common.{sym, ap₂, ◌∙◌}
 use Rattle.std.proofs.Math.Bool.{true, false}
@@ -14,14 +14,12 @@ use Rattle.common.specs.Tools.{ltb_elim, by_test, if_elim, void, both_left, both
 use Rattle.common.specs.Tools.{refused_test}
 use Rattle.line.specs.Insertion.{zero_if, stuff}
 use Rattle.entry.specs.declared.Entry.{Entry}
-use Rattle.entry.specs.Entry.{plain_entry}
-use Rattle.queue.specs.Holding.{entry_if}
 use Rattle.sdlc.specs.declared.Addressing.{Addressing}
 use Rattle.sdlc.specs.declared.Chars.{Chars}
 use Rattle.sdlc.specs.declared.Listener.{Listener}
 use Rattle.sdlc.specs.declared.Listened.{Listened}
 use Rattle.sdlc.specs.Hearing.{full_delay, ones_counted, last_bit, spilled, oldest_bit, wrong, accept}
-use Rattle.sdlc.specs.Hearing.{push, deaf, closing, one, zero_bit, hear_sdlc}
+use Rattle.sdlc.specs.Hearing.{unmarked, push, deaf, closing, one, zero_bit, hear_sdlc}
 use Rattle.sdlc.specs.Within.{ones_after}
 use Rattle.whole.specs.Heard.{handed, Final, hear_all, flag_ends, ones_over, flag_free}
 use Rattle.whole.specs.Heard.{aborted_line}
@@ -46,9 +44,9 @@ Deaf s = deaf s.content ≡ true
 abbrev Counts : ℕ → Listened → Type 0
 Counts o h = h.listener.content.ones ≡ o
 
-plain_no_end : (t : Bool) (v : ℕ) → end_marks (entry_if t (plain_entry v false false)) ≡ 0
-plain_no_end true v = refl
-plain_no_end false v = refl
+unmarked_no_end : (h : Option ℕ) → end_marks (option_to_list (unmarked h)) ≡ 0
+unmarked_no_end None = refl
+unmarked_no_end (Some v) = refl
 
 never_deaf : {X : Type 0} (a b : Bool) → a || b ≡ true → a ≡ false → b ≡ false → X
 never_deaf a b d p q = void (sym q ∙ sym (ap (λ (t : Bool). t || b) p) ∙ d)
@@ -68,13 +66,13 @@ module _ (g : Addressing) (c : Chars) (k : ℕ) where
   unfolding accept
   accept_no_end o x d b =
       if_elim NoEnd (ltb c.count last_bit) refl
-      (if_elim NoEnd (wrong g c.have _) refl (plain_no_end c.have c.held))
+      (if_elim NoEnd (wrong g c.held _) refl (unmarked_no_end c.held))
 
   accept_counts : (o : ℕ) (x : Bool) (d : ℕ) (b : Bool) → Counts o (accept g c k o x d b)
   unfolding accept
   accept_counts o x d b =
       if_elim (Counts o) (ltb c.count last_bit) refl
-      (if_elim (Counts o) (wrong g c.have _) refl refl)
+      (if_elim (Counts o) (wrong g c.held _) refl refl)
 
 module _ (g : Addressing) (s : Listener) where
   push_no_end : (o : ℕ) (x b : Bool) → NoEnd (push g s o x b)
@@ -140,7 +138,7 @@ module _ (g : Addressing) (s : Listener) where
   zero_deaf d =
       let c = s.content in
       if_elim Nothing (eqb c.ones 6)
-      (ap (λ (t : Bool). entry_if (not t && c.chars.have) (closing c.chars s.check)) d)
+      (ap (λ (t : Bool). option_to_list (if t then None else closing c.chars s.check)) d)
       (by_test Nothing (deaf c) (λ t. refl) (λ t. void (sym t ∙ d)))
 
   -- and only a flag ends it

@@ -1,6 +1,6 @@
 -- A frame's line, heard: its bytes, the check's two, the last with the end mark and a good check.
 -- Assumes nothing.
-use Rattle.std.specs.Prelude.{◌≡◌, Bool, not, eqb, ltb, take, if◌then◌else◌}
+use Rattle.std.specs.Prelude.{Option, Some, None, option_to_list, ◌≡◌, Bool, not, eqb, ltb, take, if◌then◌else◌}
 use Rattle.std.proofs.Math.Path.{refl, ap, ap₂}
 use Rattle.std.proofs.Common.{sym, ◌∙◌, subst, take_at}
 use Rattle.std.proofs.Math.Bool.{true, false}
@@ -19,14 +19,13 @@ use Rattle.line.specs.Laws.Check.{check_join}
 use Rattle.line.specs.Laws.Bits.{bit_few}
 use Rattle.entry.specs.declared.Entry.{Entry}
 use Rattle.entry.specs.Entry.{plain_entry}
-use Rattle.queue.specs.Holding.{entry_if}
 use Rattle.sdlc.specs.declared.Addressing.{Addressing}
 use Rattle.sdlc.specs.declared.Chars.{Chars}
 use Rattle.sdlc.specs.declared.Content.{Content}
 use Rattle.sdlc.specs.declared.Listener.{Listener}
 use Rattle.sdlc.specs.declared.Listened.{Listened}
 use Rattle.sdlc.specs.Hearing.{chars, no_chars, empty_delay, full_delay, content, heard_so, listener}
-use Rattle.sdlc.specs.Hearing.{listened, unheard, shift_in, last_bit, accept, push, closing}
+use Rattle.sdlc.specs.Hearing.{listened, unheard, shift_in, last_bit, unmarked, accept, push, closing}
 use Rattle.sdlc.specs.Hearing.{past_flag, one, zero_bit, hear_sdlc}
 use Rattle.whole.specs.Heard.{handed, Final, final, before, hear_all, Fresh, in_hunt}
 use Rattle.whole.specs.Heard.{past_flag_lem, lead}
@@ -61,15 +60,14 @@ next_text t b =
     let c = t.chars in
     let v = shift_in b c.part in
     let k = check_step sdlc t.check b in
-    if ltb c.count last_bit then text (chars (c.count + 1) v c.have c.held) k
-    else text (chars 0 0 true v) k
+    if ltb c.count last_bit then text (chars (c.count + 1) v c.held) k
+    else text (chars 0 0 (Some v)) k
 
 abbrev gave : Chars → List Entry
-gave c =
-    if ltb c.count last_bit then [] else entry_if c.have (plain_entry c.held false false)
+gave c = if ltb c.count last_bit then [] else option_to_list (unmarked c.held)
 
 unfoldable char_run : Text → List Bool → List Entry
-char_run t [] = entry_if t.chars.have (closing t.chars t.check)
+char_run t [] = option_to_list (closing t.chars t.check)
 char_run t (b ∷ bs) = gave t.chars ++ char_run (next_text t b) bs
 
 -- The delay: the number for the bits in it
@@ -147,13 +145,13 @@ module _ (address : ℕ) where
       let c = t.chars in
       let v = shift_in b c.part in
       let k = check_step sdlc t.check b in
-      let less = text (chars (c.count + 1) v c.have c.held) k in
-      let full = text (chars 0 0 true v) k in
-      let n = plain_entry c.held false false in
+      let less = text (chars (c.count + 1) v c.held) k in
+      let full = text (chars 0 0 (Some v)) k in
+      let n = unmarked c.held in
       elim (ltb c.count last_bit) as
-      (λ q. let h = if q then unheard (at o y d less) else listened (at o y d full) c.have n in
+      (λ q. let h = if q then unheard (at o y d less) else listened (at o y d full) n in
       before (handed h) (hear_all g h.listener tail)
-      ≡ before (if q then [] else entry_if c.have n)
+      ≡ before (if q then [] else option_to_list n)
       (hear_all g (at o y d (if q then less else full)) tail))
       [ true ↦ refl | false ↦ refl ]
 
@@ -232,7 +230,7 @@ module _ (address : ℕ) where
     heard_at = λ t ds l.
         let e : 0 ≡ length ds + 0 - 7 = omega arith in
         ap (λ (l : List Entry). final past_flag l)
-        (append-nil (entry_if t.chars.have (closing t.chars t.check)))
+        (append-nil (option_to_list (closing t.chars t.check)))
         ∙ ap (λ (n : ℕ). final past_flag (char_run t (take n (ds ++ [])))) e;
   }
 
@@ -281,7 +279,7 @@ module _ (address : ℕ) where
       → Opened (content true s o d c) k x
   unfolding hear_all hear_sdlc one zero_bit push
   from_hunt s o d c k x =
-      eqb_elim (λ t. let h = if t then listened past_flag false (closing c k)
+      eqb_elim (λ t. let h = if t then listened past_flag None
       else unheard (heard_so (content true s 0 d c) k false) in
       before (handed h)
       (hear_all g h.listener (true ∷ true ∷ true ∷ true ∷ true ∷ true ∷ false ∷ []))
@@ -307,33 +305,32 @@ module _ (address : ℕ) where
 abbrev pub bad_if : ℕ → Bool
 bad_if k = not (eqb k remainder)
 
-byte_in : (t : Bool) (o k v : ℕ) (rest : List Bool)
-    → char_run (text (chars 0 0 t o) k) (low_bits 8 v ++ rest)
-    ≡ entry_if t (plain_entry o false false)
-    ++ char_run (text (chars 0 0 true (assembled 0 (low_bits 8 v)))
+byte_in : (h : Option ℕ) (k v : ℕ) (rest : List Bool)
+    → char_run (text (chars 0 0 h) k) (low_bits 8 v ++ rest)
+    ≡ option_to_list (unmarked h)
+    ++ char_run (text (chars 0 0 (Some (assembled 0 (low_bits 8 v))))
     (check_over sdlc k (low_bits 8 v))) rest
 unfolding char_run low_bits assembled check_over
-byte_in t o k v rest = refl
+byte_in h k v rest = refl
 
-byte_whole : (t : Bool) (o k v : ℕ) (rest : List Bool) → v < 256
-    → char_run (text (chars 0 0 t o) k) (low_bits 8 v ++ rest)
-    ≡ entry_if t (plain_entry o false false)
-    ++ char_run (text (chars 0 0 true v) (check_over sdlc k (low_bits 8 v))) rest
-byte_whole t o k v rest l =
+byte_whole : (h : Option ℕ) (k v : ℕ) (rest : List Bool) → v < 256
+    → char_run (text (chars 0 0 h) k) (low_bits 8 v ++ rest)
+    ≡ option_to_list (unmarked h)
+    ++ char_run (text (chars 0 0 (Some v)) (check_over sdlc k (low_bits 8 v))) rest
+byte_whole h k v rest l =
     let c = check_over sdlc k (low_bits 8 v) in
-    byte_in t o k v rest
-    ∙ ap (λ (x : ℕ). entry_if t (plain_entry o false false)
-    ++ char_run (text (chars 0 0 true x) c) rest)
+    byte_in h k v rest
+    ∙ ap (λ (x : ℕ). option_to_list (unmarked h) ++ char_run (text (chars 0 0 (Some x)) c) rest)
     (assembled_whole v l)
 
 bytes_in : (o k : ℕ) {vs : List ℕ} → Below 256 vs
-    → char_run (text (chars 0 0 true o) k) (note_bits vs)
+    → char_run (text (chars 0 0 (Some o)) k) (note_bits vs)
     ≡ ended (bad_if (check_over sdlc k (note_bits vs))) (o ∷ vs)
 unfolding text_bits char_run ended check_over
 bytes_in o k none = refl
 bytes_in o k (more {v = v} {vs = vs} l bs) =
     let e = plain_entry o false false in
-    byte_whole true o k v (note_bits vs) l
+    byte_whole (Some o) k v (note_bits vs) l
     ∙ ap (λ (l : List Entry). e ∷ l) (bytes_in v (check_over sdlc k (low_bits 8 v)) bs)
     ∙ ap (λ (x : ℕ). e ∷ ended (bad_if x) (v ∷ vs))
     (sym (check_join sdlc k (low_bits 8 v) (note_bits vs)))
@@ -344,7 +341,7 @@ fresh_in : (v : ℕ) {vs : List ℕ} → Below 256 (v ∷ vs)
     ≡ ended (bad_if (check_over sdlc ones (note_bits (v ∷ vs)))) (v ∷ vs)
 unfolding text_bits
 fresh_in v {vs} (more l bs) =
-    byte_whole false 0 ones v (note_bits vs) l
+    byte_whole None ones v (note_bits vs) l
     ∙ bytes_in v (check_over sdlc ones (low_bits 8 v)) bs
     ∙ ap (λ (x : ℕ). ended (bad_if x) (v ∷ vs))
     (sym (check_join sdlc ones (low_bits 8 v) (note_bits vs)))

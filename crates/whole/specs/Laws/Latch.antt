@@ -1,11 +1,11 @@
 -- The underrun latch: a tick never lowers it, the tick that finds the line dry sets it, and while
 -- it is clear a tick leaves an opening flag or a byte, or sets it. Assumes nothing.
-use Rattle.std.specs.Prelude.{◌≡◌, true, false, not, ◌&&◌, ℕ, eqb}
+use Rattle.std.specs.Prelude.{◌≡◌, None, true, false, not, ◌&&◌, ℕ, eqb}
 use Rattle.std.proofs.Math.Path.{refl}
 use Rattle.std.proofs.Common.{ap, ◌∙◌}
 use Rattle.common.specs.Tools.{if_elim, void}
 use Rattle.shared.specs.declared.Shared.{Shared}
-use Rattle.shared.specs.Shared.{shared}
+use Rattle.shared.specs.Shared.{shared, full}
 use Rattle.sdlc.specs.declared.LineUnit.{LineUnit}
 use Rattle.sdlc.specs.declared.LineUnit.TheVariants.{Mark, Flag, Byte, Check, Abort}
 use Rattle.sdlc.specs.declared.Framing.{Framing}
@@ -17,12 +17,12 @@ use Rattle.whole.specs.Come.{good, opens}
 
 -- The tick that finds the line dry
 
-pub dry_sets : (v r b c : ℕ)
+pub dry_sets : (v r c : ℕ)
     → (tick_sdlc good
-    (framer (Byte 0 v) (insertion r false) (shared b false false c))).framer.shared.latch
+    (framer (Byte 0 v) (insertion r false) (shared None false c))).framer.shared.latch
     ≡ true
-dry_sets v r b c =
-    let k = shared b false false c in
+dry_sets v r c =
+    let k = shared None false c in
     ap (λ (t : Framed). t.framer.shared.latch)
     (tick_chooses good r k (Byte 0 v) refl ∙ next_byte_check good r k refl 0 v refl refl refl)
 
@@ -35,9 +35,9 @@ module _ (g : Framing) (r : ℕ) (k : Shared) (l : k.latch ≡ true) where
   following_set : (u : LineUnit) → Set (following g u r k)
   unfolding following
   following_set Mark = l
-  following_set (Flag n) = if_elim Set k.full l l
+  following_set (Flag n) = if_elim Set (full k) l l
   following_set (Byte n v) =
-      if_elim Set k.full l (if_elim Set (not k.latch && g.included) refl refl)
+      if_elim Set (full k) l (if_elim Set (not k.latch && g.included) refl refl)
   following_set (Check n v) = l
   following_set (Abort n) = l
 
@@ -71,9 +71,9 @@ module _ (r : ℕ) (k : Shared) (l : k.latch ≡ false) where
   next_went : (u : LineUnit) → opens u ≡ true → WentOn (next good u r k)
   unfolding following
   next_went Mark o = void o
-  next_went (Flag n) o = if_elim WentOn k.full (opened l refl) (opened l refl)
+  next_went (Flag n) o = if_elim WentOn (full k) (opened l refl) (opened l refl)
   next_went (Byte n v) o =
-      if_elim WentOn k.full (opened l refl)
+      if_elim WentOn (full k) (opened l refl)
       (if_elim WentOn (not k.latch && true) (latched refl) (latched refl))
   next_went (Check n v) o = void o
   next_went (Abort n) o = void o

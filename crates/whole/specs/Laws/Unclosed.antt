@@ -1,6 +1,6 @@
 -- While the latch is clear the line holds no closed frame: a flag ends only right behind another;
 -- and a frame is closed. Assumes nothing.
-use Rattle.std.specs.Prelude.{◌≡◌, refl, Bool, true, false, not, ◌&&◌, List, [], ◌∷◌, ◌++◌, ℕ, zero, suc, ◌+◌, ◌-◌, ◌/◌, ◌≤◌, ◌<◌, eqb, length, if◌then◌else◌}
+use Rattle.std.specs.Prelude.{◌≡◌, refl, Bool, true, false, not, ◌&&◌, Option, Some, None, List, [], ◌∷◌, ◌++◌, ℕ, zero, suc, ◌+◌, ◌-◌, ◌/◌, ◌≤◌, ◌<◌, eqb, length, if◌then◌else◌}
 use Rattle.std.proofs.Common.{sym, ap, ◌∙◌, append_assoc, arith, length-append, ne_eqb, lt-ltb}
 use Rattle.common.specs.Tools.{lt_or, both_left, both_right, not_true}
 use Rattle.line.specs.Bits.{odd, low_bits}
@@ -69,12 +69,12 @@ bits_in zero = 0
 bits_in (suc n) = 7 - n
 
 pub data Opened : Framer → ℕ → ℕ → Type 0 where
-  in_flag : (n b : ℕ) (f : Bool) (c : ℕ) → n ≤ 7
-      → Opened (framer (Flag n) not_counted (shared b f false c)) (ones_in n) (bits_in n)
-  in_byte_lem : (n v r b : ℕ) (f : Bool) (c g : ℕ) → r < 5
-      → Opened (framer (Byte n v) (insertion r false) (shared b f false c)) r g
-  owing : (n v b : ℕ) (f : Bool) (c g : ℕ)
-      → Opened (framer (Byte n v) (insertion 0 true) (shared b f false c)) 5 g
+  in_flag : (n : ℕ) (b : Option ℕ) (c : ℕ) → n ≤ 7
+      → Opened (framer (Flag n) not_counted (shared b false c)) (ones_in n) (bits_in n)
+  in_byte_lem : (n v r : ℕ) (b : Option ℕ) (c g : ℕ) → r < 5
+      → Opened (framer (Byte n v) (insertion r false) (shared b false c)) r g
+  owing : (n v : ℕ) (b : Option ℕ) (c g : ℕ)
+      → Opened (framer (Byte n v) (insertion 0 true) (shared b false c)) 5 g
 
 -- a bit of content
 record Content (s : Framer) (r g : ℕ) (bit : Bool) : Type 0 where
@@ -83,26 +83,26 @@ record Content (s : Framer) (r g : ℕ) (bit : Bool) : Type 0 where
   pub there : Opened s ones bits
   pub on : (bs : List Bool) → unclosed r g (bit ∷ bs) ≡ unclosed ones bits bs
 
-content : (n v r b : ℕ) (f : Bool) (c g : ℕ) (bit : Bool) → r < 5
+content : (n v r : ℕ) (b : Option ℕ) (c g : ℕ) (bit : Bool) → r < 5
     → Content (framer (Byte n v) (insertion (run_after r bit) (owes r bit))
-    (shared b f false c)) r g bit
+    (shared b false c)) r g bit
 unfolding unclosed
-content n v r b f c g false h = record {
+content n v r b c g false h = record {
   ones = 0;
   bits = g + 1;
-  there = in_byte_lem n v 0 b f c (g + 1) (omega arith);
+  there = in_byte_lem n v 0 b c (g + 1) (omega arith);
   on = λ bs. rw (ne_eqb r 6 (λ e. omega arith));
 }
-content n v r b f c g true h =
+content n v r b c g true h =
     lt_or r 4
     (λ l. rw (lt-ltb r 4 l) (record {
       ones = r + 1;
       bits = g + 1;
-      there = in_byte_lem n v (r + 1) b f c (g + 1) (omega arith);
+      there = in_byte_lem n v (r + 1) b c (g + 1) (omega arith);
       on = λ bs. rw (lt-ltb r 7 (omega arith));
     }))
     (λ l. let e : r ≡ 4 = omega arith in
-    rw e (record { ones = 5; bits = g + 1; there = owing n v b f c (g + 1); on = λ bs. refl }))
+    rw e (record { ones = 5; bits = g + 1; there = owing n v b c (g + 1); on = λ bs. refl }))
 
 -- a tick goes on so, or sets the latch
 pub data Goes (s : Framer) (o g : ℕ) : Type 0 where
@@ -125,51 +125,51 @@ flag_on (suc (suc (suc (suc (suc (suc zero)))))) h bs = refl
 flag_on (suc (suc (suc (suc (suc (suc (suc n))))))) h bs = absurd (omega arith)
 
 loads : (r b c g : ℕ) (u : LineUnit) → r < 5
-    → let k = shared b true false c in
-    tick_sdlc good (framer u (insertion r false) k) ≡ start_byte good r k
+    → let k = shared (Some b) false c in
+    tick_sdlc good (framer u (insertion r false) k) ≡ start_byte good r b k
     → Goes (framer u (insertion r false) k) r g
 loads r b c g u l e =
-    let k = content 7 (b / 2) r b false (check_over sdlc c (low_bits 8 b)) g (odd b) l in
+    let k = content 7 (b / 2) r None (check_over sdlc c (low_bits 8 b)) g (odd b) l in
     goes (odd b) true _ k.ones k.bits e k.there k.on
 
 pub tick_goes : {s : Framer} {o g : ℕ} → Opened s o g → Goes s o g
 unfolding unclosed
-tick_goes (in_flag (suc n) b f c l) =
-    let k = shared b f false c in
+tick_goes (in_flag (suc n) b c l) =
+    let k = shared b false c in
     goes (flag_bit (suc n)) false (framer (Flag n) not_counted k) (ones_in n) (bits_in n)
     (tick_flag good k n 0)
-    (in_flag n b f c (omega arith)) (flag_on n (omega arith))
-tick_goes (in_flag zero b true c l) =
-    let k = shared b true false c in
+    (in_flag n b c (omega arith)) (flag_on n (omega arith))
+tick_goes (in_flag zero (Some b) c l) =
+    let k = shared (Some b) false c in
     loads 0 b c 0 (Flag 0) (omega arith)
     (tick_chooses good 0 k (Flag 0) refl ∙ next_flag_full good 0 k refl 0 refl)
-tick_goes (in_flag zero b false c l) =
-    let k = shared b false false c in
+tick_goes (in_flag zero None c l) =
+    let k = shared None false c in
     goes false false (framer (Flag 7) not_counted k) 0 1
     (tick_chooses good 0 k (Flag 0) refl ∙ next_flag_empty good 0 k refl 0 refl)
-    (in_flag 7 b false c (omega arith)) (λ bs. refl)
-tick_goes (in_byte_lem (suc n) v r b f c g l) =
-    let k = shared b f false c in
-    let x = content n (v / 2) r b f c g (odd v) l in
+    (in_flag 7 None c (omega arith)) (λ bs. refl)
+tick_goes (in_byte_lem (suc n) v r b c g l) =
+    let k = shared b false c in
+    let x = content n (v / 2) r b c g (odd v) l in
     goes (odd v) false _ x.ones x.bits (tick_byte good k n v r) x.there x.on
-tick_goes (in_byte_lem zero v r b true c g l) =
-    let k = shared b true false c in
+tick_goes (in_byte_lem zero v r (Some b) c g l) =
+    let k = shared (Some b) false c in
     loads r b c g (Byte 0 v) l
     (tick_chooses good r k (Byte 0 v) refl ∙ next_byte_full good r k refl 0 v refl)
-tick_goes (in_byte_lem zero v r b false c g l) =
-    let k = shared b false false c in
+tick_goes (in_byte_lem zero v r None c g l) =
+    let k = shared None false c in
     shuts (ap (λ (t : Framed). t.framer.shared.latch)
     (tick_chooses good r k (Byte 0 v) refl ∙ next_byte_check good r k refl 0 v refl refl refl))
-tick_goes (owing n v b f c g) =
-    let k = shared b f false c in
+tick_goes (owing n v b c g) =
+    let k = shared b false c in
     goes false false (framer (Byte n v) (insertion 0 false) k) 0 (g + 1)
     (tick_owed good k (Byte n v) 0)
-    (in_byte_lem n v 0 b f c (g + 1) (omega arith)) (λ bs. refl)
+    (in_byte_lem n v 0 b c (g + 1) (omega arith)) (λ bs. refl)
 
 pub opened_filled : {s : Framer} {o g : ℕ} (v : ℕ) → Opened s o g → Opened (filled_with s v) o g
-opened_filled v (in_flag n b f c l) = in_flag n v true c l
-opened_filled v (in_byte_lem n y r b f c g l) = in_byte_lem n y r v true c g l
-opened_filled v (owing n y b f c g) = owing n y v true c g
+opened_filled v (in_flag n b c l) = in_flag n (Some v) c l
+opened_filled v (in_byte_lem n y r b c g l) = in_byte_lem n y r (Some v) c g l
+opened_filled v (owing n y b c g) = owing n y (Some v) c g
 
 -- what is left of a flag passes
 pub tail_passes : (n : ℕ) → n ≤ 7 → (bs : List Bool)

@@ -1,62 +1,52 @@
 -- `writer::write_line` meets its contract: a refusal leaves the buffer alone, and the part that was lent comes back with the frame at
 -- its start. Assumes nothing.
-use native.Mathlib.Omega.{arith}
-use mathlib.Core.Path.{sym, ap, ◌∙◌}
-use lib.ListN.{length-take, length-drop}
+use Rattle.std.proofs.Common.{◌≡◌, ◌-◌, Ok, false, length, ltb, refl, ap, length-take, length-drop, arith}
+use Rattle.std.proofs.lemmas.Result.{err_from_is_err_and}
 use Rattle.line.specs.Bits.{cells}
-use Rattle.line.specs.Frame.{frame, ticks_of}
-use Rattle.zeros.specs.declared.Counted.{Counted}
-use Rattle.zeros.specs.declared.Counted.TheVariants.{Zeros}
-use Rattle.writer.specs.Writer.{buffer_after}
-use Rattle.zeros.specs.Laws.{test_said, room_there}
-use Rattle.writer.proofs.Laws.{unfit_refused, short_refused, room_counted, part_back}
+use Rattle.line.specs.Frame.{frame, zeros_of, ticks_of}
+use Rattle.zeros.specs.Laws.{refused_alike, line_there, room_there}
+use Rattle.writer.specs.Writer.{write_of}
+use Rattle.writer.proofs.Laws.{part_back}
 use Rattle.writer.proofs.write_line.Goals as goal
 
-pub returns-then-lacks_room : goal.returns-then-lacks_room
-returns-then-lacks_room c =
+pub returns-in_err-line_fits : goal.returns-in_err-line_fits
+unfolding write_of
+returns-in_err-line_fits c =
     let a = c.args in
     let note = a.note.now in
-    let out = a.out.now in
-    let t = test_said note out a.at c.note_fits.ensures c.if-note_fits.true c.room_from.ensures c.lacks_room.ensures in
-    let e = sym (short_refused note out a.at c.note_fits.ensures c.if-note_fits.true (t ∙ c.if-lacks_room.true)) in
-    record { value = e; out_after = ap (λ (w : Counted). buffer_after w (frame note) out a.at) e }
+    let e = refused_alike note c.saturating_sub.result (zeros_of note) _ c.in_err-line_fits.ensures in
+    let refused = rw c.saturating_sub.ensures at e in
+    let p = err_from_is_err_and c.from_residual.result c.from_residual.ensures.1 in
+    rw (refused, p.1, p.2) (record { value = refl; out_after = refl })
 
 pub slice_bounds-lay_line-count : goal.slice_bounds-lay_line-count
 slice_bounds-lay_line-count c =
     let a = c.args in
-    let note = a.note.now in
-    let out = a.out.now in
-    let t = test_said note out a.at c.note_fits.ensures c.if-note_fits.true c.room_from.ensures c.lacks_room.ensures in
-    (room_there note out a.at (t ∙ c.if-lacks_room.false)).1
+    let there = line_there a.note.now c.saturating_sub.result c.in_ok-line_fits.field-0 c.in_ok-line_fits.ensures in
+    (room_there a.note.now a.out.now a.at (rw c.saturating_sub.ensures at there.1)).1
 
 pub slice_bounds-lay_line-start : goal.slice_bounds-lay_line-start
 slice_bounds-lay_line-start c =
     let a = c.args in
-    let note = a.note.now in
-    let out = a.out.now in
-    let t = test_said note out a.at c.note_fits.ensures c.if-note_fits.true c.room_from.ensures c.lacks_room.ensures in
-    (room_there note out a.at (t ∙ c.if-lacks_room.false)).1
+    let there = line_there a.note.now c.saturating_sub.result c.in_ok-line_fits.field-0 c.in_ok-line_fits.ensures in
+    (room_there a.note.now a.out.now a.at (rw c.saturating_sub.ensures at there.1)).1
 
 pub lay_line-requires : goal.lay_line-requires
 lay_line-requires c =
     let a = c.args in
-    let note = a.note.now in
-    let out = a.out.now in
-    let t = test_said note out a.at c.note_fits.ensures c.if-note_fits.true c.room_from.ensures c.lacks_room.ensures in
-    let h = (room_there note out a.at (t ∙ c.if-lacks_room.false)).0 in
+    let there = line_there a.note.now c.saturating_sub.result c.in_ok-line_fits.field-0 c.in_ok-line_fits.ensures in
+    let room = (room_there a.note.now a.out.now a.at (rw c.saturating_sub.ensures at there.1)).0 in
     simp (length-take, length-drop) (omega arith)
 
-pub returns-then-note_fits : goal.returns-then-note_fits
-returns-then-note_fits c =
-    let a = c.args in
-    let note = a.note.now in
-    let out = a.out.now in
-    let t = test_said note out a.at c.note_fits.ensures c.if-note_fits.true c.room_from.ensures c.lacks_room.ensures in
-    let e = c.lay_line.ensures in
-    let answer = ap Zeros e.value ∙ sym (room_counted note out a.at c.note_fits.ensures c.if-note_fits.true (t ∙ c.if-lacks_room.false)) in record { value = answer; out_after = rw e.out_after (part_back out (cells (frame note)) (ticks_of note) a.at) ∙ ap (λ (w : Counted). buffer_after w (frame note) out a.at) answer }
-
 pub returns : goal.returns
+unfolding write_of
 returns c =
     let a = c.args in
-    let e = sym (unfit_refused a.note.now a.out.now a.at (sym c.note_fits.ensures ∙ c.if-note_fits.false)) in
-    record { value = e; out_after = ap (λ (w : Counted). buffer_after w (frame a.note.now) a.out.now a.at) e }
+    let note = a.note.now in
+    let there = line_there note c.saturating_sub.result c.in_ok-line_fits.field-0 c.in_ok-line_fits.ensures in
+    let room : ltb (length a.out.now - a.at) (ticks_of note) ≡ false = rw c.saturating_sub.ensures at there.1 in
+    let e = c.lay_line.ensures in
+    rw (there.0, room, e.out_after) (record {
+      value = ap Ok e.value;
+      out_after = part_back a.out.now (cells (frame note)) (ticks_of note) a.at;
+    })

@@ -6,7 +6,6 @@ use lib.ListN.{length}
 use Rattle.line.specs.Frame.{zeros_of, ticks_of}
 use Rattle.line.specs.Laws.Frame.{ticks_are}
 use Rattle.report.specs.Laws.Ticks.{ticks_few}
-use Rattle.told.specs.declared.Told.TheVariants.{Gone}
 use Rattle.station.proofs.fitting.gone.Goals as goal
 
 pub overflow_add-ticks : goal.overflow_add-ticks
@@ -21,4 +20,4 @@ returns c =
     let ticks : c.args.behind + 8 ≡ ticks_of note = omega (arith, c.requires.flag_bits_value) in
     let zeros : c.args.behind + 8 - (8 * (length note + 2) + 16) ≡ zeros_of note =
     omega (arith, ticks, ticks_are note) in
-    λ i. Gone (zeros i) (ticks i)
+    λ i. record { zeros = zeros i; ticks = ticks i }

@@ -2,7 +2,6 @@
 use mathlib.Core.Path.{ap, ◌∙◌}
 use mathlib.Core.List.{[]}
 use Prim.Native.Nat.{ℕ}
-use lib.ListN.{get_or}
 use Rattle.chip.specs.declared.Chip.{Chip}
 use Rattle.drive.specs.Drive.{driven, frame_opened}
 use Rattle.station.specs.Fed.{flag_gone}
@@ -13,5 +12,5 @@ returns c =
     let a = c.args in
     let flag = ap (λ (n : ℕ). driven n a.c []) c.flag_ticks.ensures in
     c.open_frame.ensures
-    ∙ ap (λ (x : Chip). frame_opened x (get_or a.note.now 0 0))
+    ∙ ap (λ (x : Chip). frame_opened x a.first)
     (c.ticked-c.ensures ∙ flag ∙ flag_gone a.between a.earlier a.c)

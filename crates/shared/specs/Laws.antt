@@ -1,0 +1,2 @@
+-- Laws of what the senders share. Assumes nothing.
+pub mod Buffer
