@@ -7,7 +7,7 @@ use crate::{Block, Matched, Matching, Reception, Syncs};
 use entry::Entry;
 use line::check_byte;
 
-// A bit enters from above.
+// A bit enters from above. These are sixteen bits, those of listening eight: a function over both would be no plainer.
 pub(crate) fn shift_in(b: bool, s: u16) -> u16
     ensures { result ≡ shift_in b s }
 {

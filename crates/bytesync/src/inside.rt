@@ -9,7 +9,7 @@ use crate::{BlockUnit, Reception, Synced};
 use shared::Shared;
 
 impl BlockUnit {
-    // The bits of a byte that are still to be sent; 0 in another unit.
+    // The bits of a byte that are still to be sent; 0 in another unit. LineUnit of sdlc has these two likewise.
     fn byte_left(self) -> u8
         ensures { result ≡ byte_left self }
     {
@@ -49,7 +49,7 @@ pub fn tick_within(u: BlockUnit, k: Shared) -> Synced
     Synced::sent(v % 2 == 1, unit, k)
 }
 
-// The bits of a character with one more.
+// The bits of a character with one more, as in listening.
 fn count_after(n: u8) -> u8
     ensures { result ≡ count_after n }
 {

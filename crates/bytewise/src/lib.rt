@@ -23,11 +23,7 @@ fn put_four(out: &mut [u8], fours: &[u32; 16], at: usize, n: usize)
     ensures { out.new
         ≡ sets out.old at (four_by fours.now n) }
 {
-    let x = fours[n];
-    out[at] = (x % 256) as u8;
-    out[at + 1] = (x / 256 % 256) as u8;
-    out[at + 2] = (x / 65536 % 256) as u8;
-    out[at + 3] = (x / 16777216 % 256) as u8;
+    out[at..at + 4].copy_from_slice(&fours[n].to_le_bytes());
 }
 
 // A stamp's twelve cells, in three stores, whatever of them counts: what follows is stored over the

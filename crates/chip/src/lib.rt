@@ -8,13 +8,15 @@ ghost use Rattle.chip.specs.Chip.{put, refused, hard_reset, control_write_a, con
 ghost use Rattle.chip.specs.Chip.{control_read_call, data_write_call};
 ghost use Rattle.chip.specs.Chip.{data_read_call, transmit_call, receive_call, lines_call};
 
-use channel::{Answer, Answered, Channel};
+use channel::{Answer, Answered, Channel, Side};
 use common::Refusal;
-use control::{control_write_a, control_write_b};
+use control::control_write;
 use interrupts::Six;
-use reading::{acknowledging, control_read_a, control_read_b, service_under_a, service_under_b};
+use reading::{
+    acknowledging, control_read, pending_in_both, rr2, service_under_a, service_under_b,
+};
 use settings::Lines;
-use ticking::{receive_a, receive_b, transmit_a, transmit_b};
+use ticking::{receive, transmit};
 use vector::Acked;
 
 #[derive(Clone, Copy)]
@@ -81,13 +83,13 @@ impl Chip {
         }
     }
 
-    // A's control write, and B's. Written out in their call they take that more stack.
+    // A's control write, and B's. Written out in their call they take 672 bytes of stack there for 480.
     #[tactic(auto, unfolding(crate::specs::Chip::control_write_a))]
     fn write_a(mut self, v: u8) -> Outcome
         ensures { result ≡ control_write_a self v }
     {
         self.service = service_under_a(self.a, self.service, v);
-        self.put(0, control_write_a(self.a, v))
+        self.put(0, control_write(self.a, Side::A, v))
     }
 
     #[tactic(auto, unfolding(crate::specs::Chip::control_write_b))]
@@ -95,7 +97,7 @@ impl Chip {
         ensures { result ≡ control_write_b self v }
     {
         self.service = service_under_b(self.b, self.service, v);
-        self.put(1, control_write_b(self.b, v))
+        self.put(1, control_write(self.b, Side::B, v))
     }
 
     // Control write.
@@ -116,8 +118,11 @@ impl Chip {
         ensures { result ≡ control_read_call self ch }
     {
         match ch {
-            0 => return self.put(ch, control_read_a(self.a, self.b)),
-            1 => return self.put(ch, control_read_b(self.a, self.b)),
+            0 => return self.put(
+                ch,
+                control_read(self.a, pending_in_both(self.a, self.b).any(), 0),
+            ),
+            1 => return self.put(ch, control_read(self.b, false, rr2(self.a, self.b))),
             _ => return self.no_channel(),
         }
     }
@@ -156,8 +161,8 @@ impl Chip {
         ensures { result ≡ transmit_call self ch }
     {
         match ch {
-            0 => return self.put(ch, transmit_a(self.a)),
-            1 => return self.put(ch, transmit_b(self.b)),
+            0 => return self.put(ch, transmit::<0>(self.a)),
+            1 => return self.put(ch, transmit::<1>(self.b)),
             _ => return self.no_channel(),
         }
     }
@@ -168,8 +173,8 @@ impl Chip {
         ensures { result ≡ receive_call self ch bit }
     {
         match ch {
-            0 => return self.put(ch, receive_a(self.a, bit)),
-            1 => return self.put(ch, receive_b(self.b, bit)),
+            0 => return self.put(ch, receive::<0>(self.a, bit)),
+            1 => return self.put(ch, receive::<1>(self.b, bit)),
             _ => return self.no_channel(),
         }
     }

@@ -32,7 +32,7 @@ pub enum Refusal {
 }
 
 impl Refusal {
-    // The paper's number.
+    // The paper's number, row by row of its table: numbers of the enum itself could not be mistaken for one another, and the edits show that a match can.
     pub fn number(self) -> u8
         ensures { result ≡ number_of self }
     {

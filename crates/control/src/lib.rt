@@ -4,7 +4,6 @@
 
 ghost use Rattle.std.specs.Prelude.{◌≡◌};
 ghost use Rattle.common.specs.Mode.{synchronous};
-ghost use Rattle.channel.specs.declared.Side.TheVariants.{A as OfA, B as OfB};
 ghost use Rattle.channel.specs.Channel.{with_pointer, settled};
 ghost use Rattle.channel.specs.Control.{commanded, preset, command_step, preset_step, write_wr0};
 ghost use Rattle.channel.specs.Control.{set_wr1, set_wr2, set_wr3, in_mode, set_wr4, set_register};
@@ -91,9 +90,8 @@ fn set_wr1(mut c: Channel, v: u8) -> Channel
 fn set_wr2(mut c: Channel, w: Side, v: u8) -> Channel
     ensures { result ≡ set_wr2 c w v }
 {
-    match w {
-        Side::A => {}
-        Side::B => c.registers.wr2 = v,
+    if let Side::B = w {
+        c.registers.wr2 = v;
     }
     c
 }
@@ -156,34 +154,21 @@ fn write_register(c: Channel, w: Side, v: u8) -> Channel
 
 // A control write.
 #[tactic(auto, unfolding(channel::specs::Control::control_written))]
-pub fn control_write(c: Channel, w: Side, v: u8) -> Answered
+pub fn control_write(mut c: Channel, w: Side, v: u8) -> Answered
     ensures { result ≡ control_written c w v }
 {
-    if c.pointer == 4 && not_built(v) {
+    if c.pointer == 0 {
+        c = write_wr0(c, v);
+    } else if c.pointer == 4 && not_built(v) {
         return Answered {
             answer: Answer::Refused(Refusal::Setting),
             channel: c,
         };
+    } else {
+        c = write_register(c, w, v);
     }
     Answered {
         answer: Answer::Done,
-        channel: if c.pointer == 0 {
-            write_wr0(c, v)
-        } else {
-            write_register(c, w, v)
-        },
+        channel: c,
     }
-}
-
-// A's control write, and B's.
-pub fn control_write_a(a: Channel, v: u8) -> Answered
-    ensures { result ≡ control_written a OfA v }
-{
-    control_write(a, Side::A, v)
-}
-
-pub fn control_write_b(b: Channel, v: u8) -> Answered
-    ensures { result ≡ control_written b OfB v }
-{
-    control_write(b, Side::B, v)
 }

@@ -76,8 +76,8 @@ pub fn count(note: &[u8]) -> usize
         t = count_byte(t, *v);
         m = mirrored_byte(m, *v);
     }
-    let check = m ^ ONES;
-    t = count_byte(t, (check % 256) as u8);
-    t = count_byte(t, (check / 256) as u8);
+    let [low, high] = (m ^ ONES).to_le_bytes();
+    t = count_byte(t, low);
+    t = count_byte(t, high);
     t.closed / 5
 }

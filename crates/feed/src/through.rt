@@ -20,17 +20,18 @@ fn bits_on(x: Bits) -> Bits
     }
 }
 
-// The rest of a byte, tick by tick; what is left of it counts the ticks, so this is a while.
+// The rest of a byte, bit by bit.
 pub(crate) fn through(s: Framer) -> Run
     ensures { result ≡ through s }
 {
+    let left = s.unit.byte_left();
     let mut x = Bits {
         ticks: 0,
-        left: s.unit.byte_left(),
+        left,
         rest: s.unit.byte_rest(),
         insertion: s.insertion,
     };
-    while 0 < x.left {
+    for _ in 0..left {
         x = bits_on(x);
     }
     Run {

@@ -44,8 +44,7 @@ fn put_content(out: &mut [u8], note: &[u8]) -> usize
 {
     let content = put_text(out, Pen { at: 8, run: 0 }, note);
     let check = content.m ^ ONES;
-    let two = [(check % 256) as u8, (check / 256) as u8];
-    let end = put_text(out, content.pen, &two);
+    let end = put_text(out, content.pen, &check.to_le_bytes());
     end.pen.at
 }
 

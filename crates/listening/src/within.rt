@@ -21,7 +21,7 @@ fn ones_after(b: bool, ones: u8) -> u8
     if b { ones_counted(ones) } else { 0 }
 }
 
-// The bits of a character with one more.
+// The bits of a character with one more. bytesync has this line too: in a crate below both it would be longer.
 fn count_after(n: u8) -> u8
     ensures { result ≡ count_after n }
 {

@@ -1,14 +1,12 @@
 // 01, Interrupts: the sources of two channels, A's and B's, what is read of them, which stay in service under a control write, and what an
 // acknowledge takes. Assumes nothing.
-ghost use Rattle.std.specs.Prelude.{◌≡◌, false};
-ghost use Rattle.interrupts.specs.Interrupts.{any_of};
-ghost use Rattle.channel.specs.Control.{control_read};
+ghost use Rattle.std.specs.Prelude.{◌≡◌};
 ghost use Rattle.reading.specs.Both.{pending_both, commands, service_under_a, service_under_b};
 ghost use Rattle.reading.specs.Both.{special_both, vector_at, vector_both, taking};
 
+use crate::Taking;
 use crate::sources::{pending, special_waits};
-use crate::{Taking, control_read};
-use channel::{Answered, Channel};
+use channel::Channel;
 use interrupts::{Six, Source, Sources, acknowledge, may_take};
 use settings::{command_in, status_affects};
 use vector::{Acked, Special, vector};
@@ -29,7 +27,7 @@ fn commands(c: Channel, v: u8, k: u8) -> bool
     c.pointer == 0 && command_in(v) == k
 }
 
-// Those in service under A's control write: WR0's command 7 ends one, and a channel reset those of A.
+// Those in service under A's control write, which B's is not like, since command 7 goes through A alone: WR0's command 7 ends one, and a channel reset those of A.
 pub fn service_under_a(a: Channel, mut s: Six, v: u8) -> Six
     ensures { result ≡ service_under_a a s v }
 {
@@ -79,19 +77,6 @@ pub fn rr2(a: Channel, b: Channel) -> u8
     ensures { result ≡ vector_both a b }
 {
     vector_at(a, b, pending_in_both(a, b).highest())
-}
-
-// A's control read, which shows whether any source is pending; and B's, which shows RR2.
-pub fn control_read_a(a: Channel, b: Channel) -> Answered
-    ensures { result ≡ control_read a (any_of (pending_both a b)) 0 }
-{
-    control_read(a, pending_in_both(a, b).any(), 0)
-}
-
-pub fn control_read_b(a: Channel, b: Channel) -> Answered
-    ensures { result ≡ control_read b false (vector_both a b) }
-{
-    control_read(b, false, rr2(a, b))
 }
 
 // Acknowledge, with these in service.

@@ -8,8 +8,7 @@ ghost use Rattle.std.specs.Prelude.{◌≡◌};
 ghost use Rattle.channel.specs.Control.{rr0, rr1_now, read_register, control_read};
 
 pub use crate::both::{
-    acknowledging, control_read_a, control_read_b, pending_in_both, rr2, service_under_a,
-    service_under_b, special_in_both,
+    acknowledging, pending_in_both, rr2, service_under_a, service_under_b, special_in_both,
 };
 pub use crate::sources::{pending, special_waits};
 use bytesync::wrong;

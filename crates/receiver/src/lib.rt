@@ -86,7 +86,7 @@ impl Receiver {
         Receiver { reception, ..self }
     }
 
-    // What the modes' ticks give, with the receiver put together again.
+    // What the modes' ticks give, with the receiver put together again; each mode has its own parts, so there is one for each.
     fn by_listener(self, h: Listened) -> Heard
         ensures { result ≡ by_listener self h }
     {

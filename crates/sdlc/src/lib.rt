@@ -114,7 +114,8 @@ impl LineUnit {
         matches!(self, LineUnit::Check(_, _))
     }
 
-    // The bits of a byte that are still to be sent; 0 in another unit.
+    // The bits of a byte that are still to be sent; 0 in another unit. BlockUnit of bytesync has these two likewise: a trait with its laws would be
+    // longer than both.
     pub fn byte_left(self) -> u8
         ensures { result ≡ byte_left self }
     {

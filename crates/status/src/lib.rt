@@ -5,7 +5,7 @@ ghost use Rattle.std.specs.Prelude.{◌≡◌};
 ghost use Rattle.status.specs.Status.{unlatched, changed, noticed, shown_bits, afresh};
 
 // The five bits of RR0 that are latched together: D7 to D3.
-#[derive(Clone, Copy, PartialEq, Eq)]
+#[derive(Clone, Copy, PartialEq, Eq, Default)]
 pub struct Live {
     pub abort: bool,
     pub underrun: bool,

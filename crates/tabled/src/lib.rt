@@ -28,6 +28,7 @@ fn put_text(out: &mut [u8], note: &[u8], tables: &Tables) -> Going
     let mut press = Press { at: 8, row: 0 };
     let mut check = PRESET;
     let mut rest = note;
+    // no for: a pair that lacks room ends it, and what is left goes on below
     while let [v, w, others @ ..] = rest {
         if !two_fit(out.len(), press.at, press.row) {
             break;
@@ -50,6 +51,7 @@ fn put_check(out: &mut [u8], tables: &Tables, g: Going) -> usize
     ensures out_after { out.new ≡ (bytes_stamped tables.now.stamps tables.now.fours (plate out.old g.press) (sent_check g.check)).buffer }
 {
     let check = g.check ^ PRESET;
+    // the check is held in a whole word, of which to_le_bytes would give eight
     let mut q = put_byte(out, tables, g.press, (check % 256) as u8);
     q = put_byte(out, tables, q, (check / 256 % 256) as u8);
     q.at

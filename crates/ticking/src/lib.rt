@@ -1,6 +1,6 @@
 // The ticks of a chip's channels. Most lie inside a byte or a character, where nothing but the sender or the receiver changes: these are made in a
-// form of their own. Channel A and channel B each have their own function, word for word: what one place alone calls, the back end makes part of
-// its caller, and a tick takes a third fewer instructions (bench/README.md). Assumes nothing.
+// form of their own. CH is the channel's number, which no tick heeds: so the back end has a tick for each channel, which one place alone calls, and
+// makes it part of its caller. With one for both, `#[inline(always)]`, a receive tick took 364 instructions for 279 (bench/README.md). Assumes nothing.
 #![tactic(auto)]
 
 mod within;
@@ -25,8 +25,9 @@ fn ticked(c: Channel) -> Answered
     a.transmit_tick()
 }
 
-// A's transmit tick, and B's.
-pub fn transmit_a(c: Channel) -> Answered
+// A transmit tick.
+#[tactic(auto, using(crate::specs::Laws::Within::within_tick, crate::specs::Laws::Within::block_tick))]
+pub fn transmit<const CH: u8>(c: Channel) -> Answered
     ensures { result ≡ transmit_tick c }
 {
     if within(c) {
@@ -38,38 +39,20 @@ pub fn transmit_a(c: Channel) -> Answered
     ticked(c)
 }
 
-pub fn transmit_b(c: Channel) -> Answered
-    ensures { result ≡ transmit_tick c }
-{
-    if within(c) {
-        return tick_within(c);
-    }
-    if within_block(c) {
-        return tick_block(c);
-    }
-    ticked(c)
-}
-
-// A's receive tick whatever its bit does, and B's; the channel is copied here, as with sending.
-fn heard_a(c: Channel, bit: bool) -> Answered
+// A receive tick whatever its bit does; the channel is copied here, as with sending.
+fn heard<const CH: u8>(c: Channel, bit: bool) -> Answered
     ensures { result ≡ answered Done (receive_tick c bit) }
 {
     let a = c;
     a.receive_tick(bit)
 }
 
-fn heard_b(c: Channel, bit: bool) -> Answered
-    ensures { result ≡ answered Done (receive_tick c bit) }
-{
-    let b = c;
-    b.receive_tick(bit)
-}
-
-// A's receive tick, and B's; a level above 1 is refused.
-pub fn receive_a(c: Channel, level: u8) -> Answered
+// A receive tick; a level above 1 is refused.
+#[tactic(auto, using(common::specs::Tools::tests, crate::specs::Laws::Within::receive_within, crate::specs::Laws::Within::block_hear))]
+pub fn receive<const CH: u8>(c: Channel, level: u8) -> Answered
     ensures { result ≡ receive_in c level }
 {
-    if 2 <= level {
+    if level > 1 {
         return Answered {
             answer: Answer::Refused(Refusal::Level),
             channel: c,
@@ -82,24 +65,5 @@ pub fn receive_a(c: Channel, level: u8) -> Answered
     if hears_within(c, bit) {
         return hear_within(c, bit);
     }
-    heard_a(c, bit)
-}
-
-pub fn receive_b(c: Channel, level: u8) -> Answered
-    ensures { result ≡ receive_in c level }
-{
-    if 2 <= level {
-        return Answered {
-            answer: Answer::Refused(Refusal::Level),
-            channel: c,
-        };
-    }
-    let bit = level == 1;
-    if hears_block(c) {
-        return hear_block(c, bit);
-    }
-    if hears_within(c, bit) {
-        return hear_within(c, bit);
-    }
-    heard_b(c, bit)
+    heard::<CH>(c, bit)
 }

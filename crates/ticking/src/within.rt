@@ -10,16 +10,15 @@ use common::{in_blocks, in_sdlc};
 use settings::breaks;
 
 // A transmit tick in SDLC, with no break and inside a byte.
+#[tactic(auto, using(crate::specs::Laws::Within::inside_is, crate::specs::Laws::Within::outside_is))]
 pub(crate) fn within(c: Channel) -> bool
     ensures { result ≡ within_byte c }
 {
-    if framing::within(c.sender.framer()) {
-        return !breaks(c.registers.wr5) & in_sdlc(c.registers.mode());
-    }
-    false
+    framing::within(c.sender.framer()) && (!breaks(c.registers.wr5) & in_sdlc(c.registers.mode()))
 }
 
 // The tick, if so.
+#[tactic(auto, unfolding(crate::specs::Within::ticked_within), using(common::specs::Tools::tests))]
 pub(crate) fn tick_within(mut c: Channel) -> Answered
     ensures { result ≡ ticked_within c }
 {
@@ -32,26 +31,20 @@ pub(crate) fn tick_within(mut c: Channel) -> Answered
 }
 
 // A transmit tick in Monosync or Bisync, with no break and inside a byte.
+#[tactic(auto, using(crate::specs::Laws::Within::inside_block, crate::specs::Laws::Within::outside_block))]
 pub(crate) fn within_block(c: Channel) -> bool
     ensures { result ≡ within_block c }
 {
-    let s = c.sender;
-    let u = s.block;
-    if bytesync::within(u) {
-        return !breaks(c.registers.wr5) & in_blocks(c.registers.mode());
-    }
-    false
+    bytesync::within(c.sender.block) && (!breaks(c.registers.wr5) & in_blocks(c.registers.mode()))
 }
 
 // The tick, if so.
+#[tactic(auto, unfolding(crate::specs::Within::ticked_block), using(common::specs::Tools::tests))]
 pub(crate) fn tick_block(mut c: Channel) -> Answered
     ensures { result ≡ ticked_block c }
 {
-    let s = c.sender;
-    let u = s.block;
-    let t = bytesync::tick_within(u, s.shared);
-    let n = t.unit;
-    c.sender = s.with_block(n, t.shared);
+    let t = bytesync::tick_within(c.sender.block, c.sender.shared);
+    c.sender = c.sender.with_block(t.unit, t.shared);
     Answered {
         answer: Answer::Gave(cell(t.bit)),
         channel: c,
@@ -59,12 +52,12 @@ pub(crate) fn tick_block(mut c: Channel) -> Answered
 }
 
 // A receive tick in SDLC, on, and inside a character.
+#[tactic(auto, unfolding(crate::specs::Within::hears_within), using(common::specs::Tools::tests))]
 pub(crate) fn hears_within(c: Channel, bit: bool) -> bool
     ensures { result ≡ hears_within c bit }
 {
     let g = c.registers.receiving(c.lines);
-    let m = g.mode;
-    in_sdlc(m) & (g.on & listening::hears_within(c.receiver.listener(), bit))
+    in_sdlc(g.mode) & (g.on & listening::hears_within(c.receiver.listener(), bit))
 }
 
 // The tick, if so.
@@ -81,12 +74,12 @@ pub(crate) fn hear_within(mut c: Channel, bit: bool) -> Answered
 }
 
 // A receive tick in Monosync or Bisync, on, outside hunt and inside a character.
+#[tactic(auto, unfolding(crate::specs::Within::hears_block), using(common::specs::Tools::tests))]
 pub(crate) fn hears_block(c: Channel) -> bool
     ensures { result ≡ hears_block c }
 {
     let g = c.registers.receiving(c.lines);
-    let m = g.mode;
-    in_blocks(m) & (g.on & bytesync::hears_within(c.receiver.reception))
+    in_blocks(g.mode) & (g.on & bytesync::hears_within(c.receiver.reception))
 }
 
 // The tick, if so.

@@ -7,6 +7,7 @@ use mathlib.Core.List.{List, [], ◌∷◌}
 use Prim.Native.Nat.{ℕ, ◌+◌, ◌/◌, ◌%◌, ◌≤◌, ◌<◌}
 use lib.Bits.{bit_xor}
 use lib.ListN.{length, get_or}
+use Rattle.std.proofs.lemmas.Nat.{xor_lt}
 use Rattle.line.specs.Bits.{low_bits, text_bits}
 use Rattle.line.specs.Check.{ones}
 use Rattle.line.specs.Frame.{content_of}
@@ -83,7 +84,7 @@ count_byte-t-requires-3 c =
     let runs = tallied_runs l.t (low_bits 8 (check % 256)) l.invariant.run in
     let last = last_byte note l.t l.v-index l.m l.invariant.left c.loop-v-test.false (omega (arith, l.auto.m-fits)) in
     let n = few note t (text_bits 8 (check / 256 ∷ [])) c.if-note-gt-LONGEST_NOTE.false last in
-    rw c.count_byte-t-2.ensures (runs.0, (runs.1, omega (arith, n, runs.1)))
+    rw (c.count_byte-t-2.ensures, c.to_le_bytes.ensures) (runs.0, (runs.1, omega (arith, n, runs.1)))
 
 pub returns : goal.returns
 returns c =
@@ -92,8 +93,10 @@ returns c =
     let check = bit_xor l.m ones in
     let t = tallied l.t (low_bits 8 (check % 256)) in
     let all = last_byte note l.t l.v-index l.m l.invariant.left c.loop-v-test.false (omega (arith, l.auto.m-fits)) in
+    let small : check < 65536 = xor_lt 16 l.m ones (omega (arith, l.auto.m-fits)) (omega arith) in
+    let high : check / 256 % 256 ≡ check / 256 = omega (arith, small) in
     let end : tallied t (low_bits 8 (check / 256)) ≡ tallied (tally 0 0) (content_of note) =
     sym (tallied_last t (check / 256)) ∙ all in
     let few = zeros_in_few note c.if-note-gt-LONGEST_NOTE.false in
-    rw (c.count_byte-t-3.ensures, c.count_byte-t-2.ensures)
+    rw (c.count_byte-t-3.ensures, c.count_byte-t-2.ensures, c.to_le_bytes.ensures, high)
     (omega (arith, few, ap (λ (x : Tally). x.closed) end))

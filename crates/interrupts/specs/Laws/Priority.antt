@@ -9,7 +9,7 @@ use Rattle.interrupts.specs.declared.Source.TheVariants.{AReceive, ATransmit, AE
 use Rattle.interrupts.specs.declared.Source.TheVariants.{BReceive, BTransmit, BExternal}
 use Rattle.interrupts.specs.declared.Six.{Six}
 use Rattle.interrupts.specs.Interrupts.{sources, six, place, highest, lies_above, may_take}
-use Rattle.interrupts.specs.Priority.{source_at, SourceAbove}
+use Rattle.interrupts.specs.Priority.{level, source_at, SourceAbove}
 
 -- What is to be seen of six sources, whichever of them are there
 
@@ -92,17 +92,18 @@ module _ (x : Six) where
   rest =
       of_each→ (not_above x (highest x)) (and_right (is_there x (highest x)) _ seen)
 
-  -- it has one of the six places
-  pub highest_most : (s : Source) → highest x ≡ Some s → place s ≤ 5
-  highest_most s e = place_most s
+  -- it has one of the six places, or is none
+  pub highest_most : level (highest x) ≤ 6
+  highest_most = level_most (highest x)
     where
-      place_most : (s : Source) → place s ≤ 5
-      place_most AReceive = omega arith
-      place_most ATransmit = omega arith
-      place_most AExternal = omega arith
-      place_most BReceive = omega arith
-      place_most BTransmit = omega arith
-      place_most BExternal = omega arith
+      level_most : (h : Option Source) → level h ≤ 6
+      level_most None = omega arith
+      level_most (Some AReceive) = omega arith
+      level_most (Some ATransmit) = omega arith
+      level_most (Some AExternal) = omega arith
+      level_most (Some BReceive) = omega arith
+      level_most (Some BTransmit) = omega arith
+      level_most (Some BExternal) = omega arith
 
   pub highest_source : (s : Source) → highest x ≡ Some s → source_at x s ≡ true
   highest_source s e = holds (source_at x s) (rw e at first)

@@ -5,8 +5,9 @@ use Prim.Native.Nat.{◌+◌, ◌*◌, ◌≤◌}
 use Rattle.feed.specs.Turns.{bits_through}
 use Rattle.feed.proofs.through.through.Given as goal
 
-abbrev pub invariant-loop-x : goal.invariant-loop-x
-invariant-loop-x l = (l.x.ticks + 2 * l.x.left ≤ 510) × (bits_through l.x.left l.x ≡ bits_through l.initial.x.left l.initial.x)
-
-abbrev pub decreases-loop-x : goal.decreases-loop-x
-decreases-loop-x l = l.x.left
+abbrev pub invariant-loop : goal.invariant-loop
+invariant-loop l = record {
+  counted : l.counter + l.x.left ≡ l.left;
+  few : l.x.ticks + 2 * l.x.left ≤ 510;
+  same : bits_through l.x.left l.x ≡ bits_through l.initial.x.left l.initial.x;
+}
