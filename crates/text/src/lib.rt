@@ -55,6 +55,7 @@ impl Line {
         } else {
             self.with_digits(v / 10, digits - 1)
         };
+        // one digit, of which as loses nothing
         l.with(b'0' + (v % 10) as u8)
     }
 
