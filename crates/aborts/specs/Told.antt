@@ -1,6 +1,7 @@
 -- What a receiver tells, whatever its queue: no more ends are read or wait than waited before and
 -- are handed over. A queue that overflows loses entries and makes none. Assumes nothing.
-use Rattle.std.specs.Prelude.{Option, Some, None, option_to_list, ◌≡◌, refl, Bool, false, List, [], ◌∷◌, ◌++◌, ℕ, zero, suc, ◌+◌, ◌-◌, ◌≤◌, eqb, ltb, take, set, get_or}
+use Rattle.std.specs.Prelude.{Option, Some, None, option_to_list, ◌≡◌, refl, Bool, false, List, [], ◌∷◌}
+use Rattle.std.specs.Prelude.{◌++◌, ℕ, zero, suc, ◌+◌, ◌-◌, ◌≤◌, eqb, ltb, take, set, get_or}
 use Rattle.std.proofs.Common.{sym, ap, ◌∙◌, subst, arith, ne_eqb}
 use Rattle.std.proofs.Math.Dec.{eqb-suc-zero}
 use Rattle.common.specs.Tools.{by_test}

@@ -1,5 +1,6 @@
 -- Receiving a character at a time, and the characters of a block. Assumes nothing.
-use Rattle.std.specs.Prelude.{Option, Some, None, option_to_list, ◌≡◌, Bool, true, false, not, ◌&&◌, List, [], ◌∷◌, ◌++◌, ℕ, zero, suc, ◌+◌, ◌<◌, length, replicate, if◌then◌else◌}
+use Rattle.std.specs.Prelude.{Option, Some, None, option_to_list, ◌≡◌, Bool, true, false, not, ◌&&◌, List}
+use Rattle.std.specs.Prelude.{[], ◌∷◌, ◌++◌, ℕ, zero, suc, ◌+◌, ◌<◌, length, replicate, if◌then◌else◌}
 use Rattle.line.specs.Bits.{low_bits, text_bits, Below}
 use Rattle.bytesync.specs.declared.Syncs.{Syncs}
 use Rattle.bytesync.specs.declared.Matching.{Matching}

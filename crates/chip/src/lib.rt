@@ -41,7 +41,8 @@ pub struct Acknowledged {
     pub acked: Acked,
 }
 
-// Each call by its channel, a number, since document 01 refuses one above 1. Its arms return, one by one: with the match as the value a tick takes some 25 instructions more (bench/README.md).
+// Each call by its channel, a number, since document 01 refuses one above 1. Its arms return, one by one: with the match as the value a tick takes
+// some 25 instructions more (bench/README.md).
 impl Chip {
     // A hard reset.
     pub fn reset() -> Chip

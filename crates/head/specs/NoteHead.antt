@@ -1,5 +1,6 @@
 -- 01, Note list and line: what stands at a place of a list. Assumes nothing.
-use Rattle.std.specs.Prelude.{◌≡◌, true, not, Result, Ok, Err, Option, Some, None, List, [], ℕ, ◌+◌, ◌-◌, ◌*◌, ◌≤◌, ltb, leb, length, get_or, take, drop, if◌then◌else◌}
+use Rattle.std.specs.Prelude.{◌≡◌, true, not, Result, Ok, Err, Option, Some, None, List, []}
+use Rattle.std.specs.Prelude.{ℕ, ◌+◌, ◌-◌, ◌*◌, ◌≤◌, ltb, leb, length, get_or, take, drop, if◌then◌else◌}
 use Rattle.common.specs.declared.Refusal.{Refusal}
 use Rattle.common.specs.declared.Refusal.TheVariants.{NoteLength, CutList}
 use Rattle.line.specs.Line.{note_fits}

@@ -6,7 +6,8 @@ ghost use Rattle.std.specs.Io.{ReadsAtMost};
 use std::io;
 use std::io::Read;
 
-// Reads until the buffer is full or the input ends, in a while loop, since a read says itself how far it came; gives how many bytes it put at the buffer's start.
+// Reads until the buffer is full or the input ends; gives how many bytes it put at the buffer's start. A while loop, since a read says itself how far
+// it came.
 pub fn read_full(rt: &impl Input, buffer: &mut [u8]) -> io::Result<usize>
     ensures { ReadsAtMost result buffer.new }
 {

@@ -8,7 +8,8 @@ use pen::put_flag;
 use stamp::Tables;
 use tabled::put_content;
 
-// The frame, flags included, as layout lays it bit by bit: there are two engines, and this one is proved to be that one; gives the place of the flag that closes it.
+// The frame, flags included; gives the place of the flag that closes it. layout lays it bit by bit: there are two engines, and this one is proved
+// to be that one.
 pub fn lay_frame(out: &mut [u8], note: &[u8], tables: &Tables) -> usize
     ensures value { result ≡ end_stamped tables.now.checks tables.now.stamps tables.now.fours out.old note.now }
     ensures out_after { out.new ≡ frame_stamped tables.now.checks tables.now.stamps tables.now.fours out.old note.now }

@@ -27,7 +27,8 @@ fn commands(c: Channel, v: u8, k: u8) -> bool
     c.pointer == 0 && command_in(v) == k
 }
 
-// Those in service under A's control write, which B's is not like, since command 7 goes through A alone: WR0's command 7 ends one, and a channel reset those of A.
+// Those in service under A's control write: WR0's command 7 ends one, and a channel reset those of A. B's is no twin of it: command 7 goes through
+// A alone.
 pub fn service_under_a(a: Channel, mut s: Six, v: u8) -> Six
     ensures { result ≡ service_under_a a s v }
 {

@@ -22,7 +22,10 @@ module _ (note : List ℕ) (room : ℕ) where
   unfolding room_of
   refused_alike x k e =
       bool_or (note_fits (length note))
-      (λ f. bool_or (ltb room (ticks_of note)) (λ r. let p : ◌≡◌ {A = Result (Unit {0}) Refusal} (Err k) (Err NoRoom) = rw (f, r) at e in rw (f, r) cc) (λ r. let p = rw (f, r) at e in cc))
+      (λ f. bool_or (ltb room (ticks_of note))
+      (λ r.
+      let p : ◌≡◌ {A = Result (Unit {0}) Refusal} (Err k) (Err NoRoom) = rw (f, r) at e in rw (f, r) cc)
+      (λ r. let p = rw (f, r) at e in cc))
       (λ f. let p : ◌≡◌ {A = Result (Unit {0}) Refusal} (Err k) (Err NoteLength) = rw f at e in rw f cc)
 
   pub line_there : (u : Unit {0}) → Ok u ≡ room_of note room

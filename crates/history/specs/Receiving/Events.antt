@@ -1,6 +1,7 @@
 -- The chip meets the receiving side: what a receive tick and a data read of a channel do to it, and
 -- what the reads answer. Assumes nothing.
-use Rattle.std.specs.Prelude.{Option, Some, None, is_none, option_to_list, IfSome, ◌≡◌, Bool, true, false, not, ◌&&◌, ◌||◌, List, [], ◌∷◌, ◌++◌, ℕ, eqb, ltb, if◌then◌else◌}
+use Rattle.std.specs.Prelude.{Option, Some, None, is_none, option_to_list, IfSome, ◌≡◌, Bool, true, false}
+use Rattle.std.specs.Prelude.{not, ◌&&◌, ◌||◌, List, [], ◌∷◌, ◌++◌, ℕ, eqb, ltb, if◌then◌else◌}
 use Rattle.std.proofs.Math.Path.{refl}
 use Rattle.std.proofs.Common.{sym, ap, ap₂, ◌∙◌, append-nil}
 use Rattle.common.specs.Tools.{by_test, bool_or, void}
