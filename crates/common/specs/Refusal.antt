@@ -21,3 +21,8 @@ number_of NoCharacter = 10
 abbrev pub number_in : {T : Type 0} → Result T Refusal → ℕ
 number_in (Ok x) = 0
 number_in (Err k) = number_of k
+
+-- the number that it gives: 0 where it is a refusal
+abbrev pub value_in : Result ℕ Refusal → ℕ
+value_in (Ok x) = x
+value_in (Err k) = 0
