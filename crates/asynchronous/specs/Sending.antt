@@ -24,6 +24,10 @@ unfoldable pub stop_bits : Stops → List Bool
 stop_bits One = true ∷ []
 stop_bits Two = true ∷ true ∷ []
 
+-- the stop bits of this number; any number but two counts as one
+unfoldable pub stops_named : ℕ → Stops
+stops_named n = if eqb n 2 then Two else One
+
 -- "the low bits, parity, stop ones"
 abbrev pub character_bits : Typing → ℕ → List Bool
 character_bits g v =

@@ -1,13 +1,20 @@
 // 01, Sending, Asynchronous: start 0, the low bits, parity, stop ones. Assumes nothing.
 ghost use Rattle.std.specs.Prelude.{◌≡◌, ◌+◌, ◌*◌, ◌%◌, ◌^◌, ◌≤◌, length};
 ghost use Rattle.line.specs.Bits.{from_low};
-ghost use Rattle.asynchronous.specs.Sending.{stop_bits, character_of, idling, tick_character};
+ghost use Rattle.asynchronous.specs.Sending.{stops_named, stop_bits, character_of, idling, tick_character};
 
 use crate::{Character, Stops, Typed, Typing};
-use shapes::{bits_sent, parity_bit};
 use shared::Shared;
 
 impl Stops {
+    // The stop bits of this number; any number but two counts as one.
+    #[tactic(auto, unfolding(crate::specs::Sending::stops_named))]
+    pub fn of(n: u8) -> Stops
+        ensures { result ≡ stops_named n }
+    {
+        if n == 2 { Stops::Two } else { Stops::One }
+    }
+
     // How many they are.
     #[tactic(auto, unfolding(crate::specs::Sending::stop_bits))]
     fn count(self) -> u8
@@ -45,11 +52,11 @@ impl Typing {
     fn character(self, v: u8) -> Character
         ensures { result ≡ character_of self v }
     {
-        let n = bits_sent(self.format.length, v);
+        let n = self.format.length.bits_sent(v);
         let count = self.stops.count();
         let ones = self.stops.ones();
         if self.format.parity {
-            let p = u8::from(parity_bit(self.format.even, self.format.length, v));
+            let p = u8::from(self.format.length.parity_bit(self.format.even, v));
             return Character {
                 left: n + 1 + count,
                 bits: above(n, v, ones * 2 + p),

@@ -8,7 +8,7 @@ use Rattle.line.specs.Laws.Xor.{differs_self}
 use Rattle.shapes.specs.declared.Length.{Length}
 use Rattle.shapes.specs.declared.Length.TheVariants.{Five, Six, Seven, Eight}
 use Rattle.shapes.specs.Shapes.{shape_bits}
-use Rattle.shapes.specs.Sent.{bits_sent, odd_over, parity_bit, parity_of}
+use Rattle.shapes.specs.Sent.{length_named, bits_sent, odd_over, parity_bit, parity_of}
 use Rattle.shapes.specs.Laws.Shapes.{shape_least, shape_most}
 
 -- a character sends one to eight bits
@@ -25,6 +25,13 @@ bits_most Five v = omega (arith, shape_most v)
 bits_most Six v = omega arith
 bits_most Seven v = omega arith
 bits_most Eight v = omega arith
+
+-- so by any number
+pub bits_least_named : (n v : ℕ) → 1 ≤ bits_sent (length_named n) v
+bits_least_named n v = bits_least (length_named n) v
+
+pub bits_most_named : (n v : ℕ) → bits_sent (length_named n) v ≤ 8
+bits_most_named n v = bits_most (length_named n) v
 
 -- at the other lengths no shape counts
 pub other_lengths : (v : ℕ) → (bits_sent Six v ≡ 6) × (bits_sent Seven v ≡ 7) × (bits_sent Eight v ≡ 8)

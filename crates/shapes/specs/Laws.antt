@@ -1,2 +1,4 @@
--- Laws of the shapes; those of the bits that are sent stand in proofs/. Assumes nothing.
+-- Laws of the shapes, and of a length by its number; those of the bits that are sent stand in
+-- proofs/. Assumes nothing.
 pub mod Shapes
+pub mod Lengths

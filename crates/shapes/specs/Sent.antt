@@ -1,6 +1,6 @@
 -- 01, Sending: "the low bits, parity": what an asynchronous character of a length sends of a byte.
 -- Assumes nothing.
-use Rattle.std.specs.Prelude.{Bool, not, List, [], ◌∷◌, ℕ}
+use Rattle.std.specs.Prelude.{Bool, not, List, [], ◌∷◌, ℕ, eqb, if◌then◌else◌}
 use Rattle.line.specs.Bits.{low_bits}
 use Rattle.line.specs.Check.{differs}
 use Rattle.shapes.specs.declared.Length.{Length}
@@ -13,6 +13,11 @@ size Five = 5
 size Six = 6
 size Seven = 7
 size Eight = 8
+
+-- the length of so many data bits; a number that is none of five, six and seven counts as eight
+unfoldable pub length_named : ℕ → Length
+length_named n =
+    if eqb n 5 then Five else (if eqb n 6 then Six else (if eqb n 7 then Seven else Eight))
 
 -- 02, P1: with 00 as many as the byte's shape says
 unfoldable pub bits_sent : Length → ℕ → ℕ

@@ -3,7 +3,7 @@
 
 ghost use Rattle.std.specs.Prelude.{◌≡◌, ◌≤◌};
 ghost use Rattle.shapes.specs.Shapes.{shape_bits};
-ghost use Rattle.shapes.specs.Sent.{size, bits_sent, parity_of};
+ghost use Rattle.shapes.specs.Sent.{length_named, size, bits_sent, parity_of};
 
 // A character's length: five data bits, as WR3 and WR5 have them for 00, to eight.
 #[derive(Clone, Copy, PartialEq, Eq)]
@@ -15,12 +15,51 @@ pub enum Length {
 }
 
 impl Length {
+    // The length of so many data bits; a number that is none of five, six and seven counts as eight.
+    #[tactic(auto, unfolding(crate::specs::Sent::length_named))]
+    pub fn of(bits: u8) -> Length
+        ensures { result ≡ length_named bits }
+    {
+        match bits {
+            5 => Length::Five,
+            6 => Length::Six,
+            7 => Length::Seven,
+            _ => Length::Eight,
+        }
+    }
+
     // How many data bits that is.
     pub fn size(self) -> u8
         ensures value { result ≡ size self }
         ensures upper_bound { result ≤ 8 }
     {
         self as u8
+    }
+
+    // How many bits of this byte a character of this length sends.
+    #[tactic(auto, unfolding(crate::specs::Sent::bits_sent))]
+    pub fn bits_sent(self, v: u8) -> u8
+        ensures value { result ≡ bits_sent self v }
+        ensures upper_bound { result ≤ 8 }
+    {
+        match self {
+            Length::Five => shape_bits(v),
+            _ => self.size(),
+        }
+    }
+
+    // The parity bit of the bits that are sent.
+    #[tactic(auto, using(line::specs::Laws::Bits::low_step, line::specs::Laws::Bits::low_none), unfolding(crate::specs::Sent::odd_over))]
+    pub fn parity_bit(self, even: bool, v: u8) -> bool
+        ensures { result ≡ parity_of even self v }
+    {
+        let mut odd = !even;
+        let mut rest = v;
+        for _ in 0..self.bits_sent(v) {
+            odd = odd != (rest % 2 == 1);
+            rest /= 2;
+        }
+        odd
     }
 }
 
@@ -43,28 +82,17 @@ fn shape_bits(v: u8) -> u8
     }
 }
 
-// How many bits of this byte a character of this length sends.
-#[tactic(auto, unfolding(crate::specs::Sent::bits_sent))]
-pub fn bits_sent(length: Length, v: u8) -> u8
-    ensures value { result ≡ bits_sent length v }
+// How many bits of this byte a character of so many data bits sends, whatever their number.
+pub fn bits_sent(length: u8, v: u8) -> u8
+    ensures value { result ≡ bits_sent (length_named length) v }
     ensures upper_bound { result ≤ 8 }
 {
-    match length {
-        Length::Five => shape_bits(v),
-        _ => length.size(),
-    }
+    Length::of(length).bits_sent(v)
 }
 
-// The parity bit of the bits that are sent.
-#[tactic(auto, using(line::specs::Laws::Bits::low_step, line::specs::Laws::Bits::low_none), unfolding(crate::specs::Sent::odd_over))]
-pub fn parity_bit(even: bool, length: Length, v: u8) -> bool
-    ensures { result ≡ parity_of even length v }
+// The parity bit of these bits.
+pub fn parity_bit(even: bool, length: u8, v: u8) -> bool
+    ensures { result ≡ parity_of even (length_named length) v }
 {
-    let mut odd = !even;
-    let mut rest = v;
-    for _ in 0..bits_sent(length, v) {
-        odd = odd != (rest % 2 == 1);
-        rest /= 2;
-    }
-    odd
+    Length::of(length).parity_bit(even, v)
 }
