@@ -1,6 +1,6 @@
 -- 01, Interrupts and external status: a channel's sources, their priority, acknowledge and RETI.
 -- Assumes nothing.
-use Rattle.std.specs.Prelude.{Bool, true, false, ℕ, ltb, Option, None, Some, if◌then◌else◌}
+use Rattle.std.specs.Prelude.{Bool, true, false, ℕ, eqb, ltb, Option, None, Some, if◌then◌else◌}
 use Rattle.interrupts.specs.declared.Source.{Source}
 use Rattle.interrupts.specs.declared.Source.TheVariants.{AReceive, ATransmit, AExternal}
 use Rattle.interrupts.specs.declared.Source.TheVariants.{BReceive, BTransmit, BExternal}
@@ -40,6 +40,14 @@ place AExternal = 2
 place BReceive = 3
 place BTransmit = 4
 place BExternal = 5
+
+-- the source that has this place, its level; at six and above there is none
+unfoldable pub source_named : ℕ → Option Source
+source_named level =
+    if eqb level 0 then Some AReceive else (if eqb level 1 then Some ATransmit
+    else (if eqb level 2 then Some AExternal else (if eqb level 3 then Some BReceive
+    else (if eqb level 4 then Some BTransmit else (if eqb level 5 then Some BExternal
+    else None)))))
 
 unfoldable pub highest : Six → Option Source
 highest s =

@@ -3,7 +3,7 @@
 #![tactic(auto)]
 
 ghost use Rattle.std.specs.Prelude.{◌≡◌};
-ghost use Rattle.interrupts.specs.Interrupts.{no_sources, no_six, highest, any_of, with_source, may_take, acknowledged, ended};
+ghost use Rattle.interrupts.specs.Interrupts.{no_sources, no_six, source_named, highest, any_of, with_source, may_take, acknowledged, ended};
 
 // A source of the two channels, in the order of their priority: what stands before another lies above it.
 #[derive(Clone, Copy, PartialEq, Eq, PartialOrd, Ord)]
@@ -29,6 +29,24 @@ pub struct Sources {
 pub struct Six {
     pub a: Sources,
     pub b: Sources,
+}
+
+impl Source {
+    // The source of this level: 0 is A's receive, 5 B's external; above these there is none.
+    #[tactic(auto, unfolding(crate::specs::Interrupts::source_named))]
+    pub fn at(level: u8) -> Option<Source>
+        ensures { result ≡ source_named level }
+    {
+        match level {
+            0 => Some(Source::AReceive),
+            1 => Some(Source::ATransmit),
+            2 => Some(Source::AExternal),
+            3 => Some(Source::BReceive),
+            4 => Some(Source::BTransmit),
+            5 => Some(Source::BExternal),
+            _ => None,
+        }
+    }
 }
 
 impl Sources {

@@ -9,7 +9,7 @@ use crate::sources::{pending, special_waits};
 use channel::Channel;
 use interrupts::{Six, Source, Sources, acknowledge, may_take};
 use settings::{command_in, status_affects};
-use vector::{Acked, Special, vector};
+use vector::{Acked, Special, vector_for};
 
 pub fn pending_in_both(a: Channel, b: Channel) -> Six
     ensures { result ≡ pending_both a b }
@@ -65,7 +65,7 @@ pub fn special_in_both(a: Channel, b: Channel) -> Special
 fn vector_at(a: Channel, b: Channel, source: Option<Source>) -> u8
     ensures { result ≡ vector_at a b source }
 {
-    vector(
+    vector_for(
         b.registers.wr2,
         status_affects(b.registers.wr1),
         source,

@@ -2,6 +2,7 @@
 #![tactic(auto)]
 
 ghost use Rattle.std.specs.Prelude.{◌≡◌, ◌≤◌};
+ghost use Rattle.interrupts.specs.Interrupts.{source_named};
 ghost use Rattle.vector.specs.Vector.{code_of, vector_of, acked_number, acked_value};
 
 use common::Refusal;
@@ -40,9 +41,9 @@ fn code(source: Option<Source>, special: Special) -> u8
     }
 }
 
-// The vector for a source, of this WR2; status affects it or not.
+// The vector for a source, or for none, of this WR2; status affects it or not.
 #[tactic(auto, unfolding(crate::specs::Vector::vector_of))]
-pub fn vector(wr2: u8, affected: bool, source: Option<Source>, special: Special) -> u8
+pub fn vector_for(wr2: u8, affected: bool, source: Option<Source>, special: Special) -> u8
     ensures { result ≡ vector_of wr2 affected source special }
 {
     if affected {
@@ -50,6 +51,13 @@ pub fn vector(wr2: u8, affected: bool, source: Option<Source>, special: Special)
     } else {
         wr2
     }
+}
+
+// The same for the source of this level, 6 and above being none.
+pub fn vector(wr2: u8, affected: bool, level: u8, special: Special) -> u8
+    ensures { result ≡ vector_of wr2 affected (source_named level) special }
+{
+    vector_for(wr2, affected, Source::at(level), special)
 }
 
 impl Acked {

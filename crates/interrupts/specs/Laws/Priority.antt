@@ -8,8 +8,19 @@ use Rattle.interrupts.specs.declared.Source.{Source}
 use Rattle.interrupts.specs.declared.Source.TheVariants.{AReceive, ATransmit, AExternal}
 use Rattle.interrupts.specs.declared.Source.TheVariants.{BReceive, BTransmit, BExternal}
 use Rattle.interrupts.specs.declared.Six.{Six}
-use Rattle.interrupts.specs.Interrupts.{sources, six, place, highest, lies_above, may_take}
+use Rattle.interrupts.specs.Interrupts.{sources, six, place, source_named, highest, lies_above, may_take}
 use Rattle.interrupts.specs.Priority.{level, source_at, SourceAbove}
+
+-- the number of a source's priority names it again, and that of none names none
+pub level_named : (h : Option Source) → source_named (level h) ≡ h
+unfolding source_named
+level_named None = refl
+level_named (Some AReceive) = refl
+level_named (Some ATransmit) = refl
+level_named (Some AExternal) = refl
+level_named (Some BReceive) = refl
+level_named (Some BTransmit) = refl
+level_named (Some BExternal) = refl
 
 -- What is to be seen of six sources, whichever of them are there
 
