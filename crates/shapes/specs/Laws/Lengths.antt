@@ -21,7 +21,7 @@ pub size_named : (n : ℕ)
     ≡ (if eqb n 5 then 5 else (if eqb n 6 then 6 else (if eqb n 7 then 7 else 8)))
 size_named n = by_number size n
 
--- "With length 00 an asynchronous byte's shape says how many", at no other
+-- by the number five as many as the byte's shape says
 pub sent_named : (n v : ℕ)
     → bits_sent (length_named n) v
     ≡ (if eqb n 5 then shape_bits v else (if eqb n 6 then 6 else (if eqb n 7 then 7 else 8)))
