@@ -54,7 +54,12 @@ fn sending() -> Framing
 fn takes_byte(s: Framer) -> bool
     ensures { result ≡ takes_byte s }
 {
-    s.shared.buffer.is_none() & !s.unit.checking()
+    match s.unit {
+        LineUnit::Check(_, _) => false,
+        LineUnit::Mark | LineUnit::Flag(_) | LineUnit::Byte(_, _) | LineUnit::Abort(_) => {
+            s.shared.buffer.is_none()
+        }
+    }
 }
 
 // The next byte, if there is one and the buffer takes it.
@@ -78,7 +83,10 @@ fn supply_at(s: Framer, rest: &[u8], i: usize) -> Place
 fn frame_ended(s: Framer) -> bool
     ensures { result ≡ frame_ended s }
 {
-    s.shared.latch & matches!(s.unit, LineUnit::Flag(0))
+    match s.unit {
+        LineUnit::Flag(n) => s.shared.latch & (n == 0),
+        LineUnit::Mark | LineUnit::Byte(_, _) | LineUnit::Check(_, _) | LineUnit::Abort(_) => false,
+    }
 }
 
 // Up to the next look at the buffer: the rest of the byte that is on its way, or one tick.

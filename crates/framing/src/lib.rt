@@ -40,7 +40,8 @@ fn start_flag(k: Shared) -> Framed
     sent_bit(false, LineUnit::Flag(7), not_counted(), k)
 }
 
-// v waited in the buffer.
+// v waited in the buffer. Part of the tick behind a flag and of that behind a byte, so that nothing of it goes through memory.
+#[inline(always)]
 fn start_byte(g: Framing, run: u8, v: u8, k: Shared) -> Framed
     ensures { result ≡ start_byte g run v k }
 {

@@ -78,7 +78,8 @@ impl Shared {
         self
     }
 
-    // The byte v enters the check over the polynomial p, if it is included.
+    // The byte v enters the check over the polynomial p, if it is included. Part of each mode's tick, whose polynomial is known there.
+    #[inline(always)]
     pub fn entered(self, v: u8, p: u16, included: bool) -> Shared
         ensures { result ≡ entered p included v self }
     {
