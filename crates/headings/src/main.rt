@@ -31,10 +31,10 @@ fn print_answer(rt: &impl Print, answer: Result<u16, Refusal>) -> io::Result<()>
 // The check of both texts in a row, in a buffer that has room for any two notes.
 fn print_whole(rt: &impl Print, front: &[u8], back: &[u8]) -> io::Result<()> {
     let mut whole = [0; PAIR];
-    for (cell, v) in whole.iter_mut().zip(front.iter().chain(back)) {
-        *cell = *v;
-    }
-    let n = front.len().saturating_add(back.len()).min(PAIR);
+    let middle = front.len().min(PAIR);
+    let n = middle + back.len().min(PAIR - middle);
+    whole[..middle].copy_from_slice(&front[..middle]);
+    whole[middle..n].copy_from_slice(&back[..n - middle]);
     print_check(rt, check_of(CheckRule::sdlc(), &whole[..n]))
 }
 
