@@ -1,7 +1,9 @@
 -- 01, How tight the contracts are: "For all inputs, refusals too, a public contract decides result,
 -- chip and lent bytes; prove that two results allowed by it are equal". The forms of contract that
 -- the product has, and that of each: docs/CONTRACTS.md names what is left open. Assumes nothing.
-use Rattle.std.specs.Prelude.{◌≡◌, List, ℕ}
+use Rattle.std.specs.Prelude.{◌≡◌, refl, List, ℕ, Option, Some, None, option_map}
+use Rattle.std.specs.Iterator.{YieldsFirstBy}
+use Rattle.std.proofs.Common.{sym, ◌∙◌}
 use Rattle.promises.specs.Contracts.{Allows, one_result}
 
 -- The result alone is a definition's value at the inputs, the chip and what lent parts held among
@@ -34,3 +36,14 @@ one_left f g i x y p q =
 pub one_part : {I : Type 0} (g : I → List ℕ) (i : I) (x y : List ℕ) → Allows g i x → Allows g i y
     → x ≡ y
 one_part = one_result
+
+-- A walk's contract tells the items that it has still to give (`Notes`): what two walks with the same
+-- items left give is the same, and the same is left behind it
+
+pub one_walk : {S A B : Type 0} (view : A → B) (rest : S → List B) (s t s' t' : S) (r q : Option A)
+    → rest s ≡ rest t → YieldsFirstBy view rest s r s' → YieldsFirstBy view rest t q t'
+    → (option_map view r ≡ option_map view q) × (rest s' ≡ rest t')
+one_walk view rest s t s' t' None None e x y = (refl, x.1 ∙ sym y.1)
+one_walk view rest s t s' t' None (Some q) e x y = cc
+one_walk view rest s t s' t' (Some r) None e x y = cc
+one_walk view rest s t s' t' (Some r) (Some q) e x y = (cc, cc)

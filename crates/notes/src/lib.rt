@@ -7,7 +7,7 @@ ghost use Rattle.notes.specs.NoteList.{read_list, scanned};
 ghost use Rattle.notes.specs.Notes.{notes_of, notes_left};
 
 use common::Refusal;
-use head::{LENGTH_BYTES, head_at};
+use head::{LENGTH_BYTES, head_at, note_at};
 
 // The version byte that opens a list.
 pub const VERSION: u8 = 1;
@@ -72,8 +72,8 @@ impl<'a> Iterator for Notes<'a> {
         let Ok(Some(k)) = head_at(self.list, self.at) else {
             return None;
         };
-        let text = self.at + LENGTH_BYTES;
-        self.at = text + k;
-        Some(&self.list[text..self.at])
+        let text = note_at(self.list, self.at);
+        self.at = self.at + LENGTH_BYTES + k;
+        Some(text)
     }
 }

@@ -1,5 +1,5 @@
 -- `notes::Notes::next` meets its contract: what stands at its place decides. Assumes nothing.
-use Rattle.std.specs.Prelude.{◌≡◌, Ok, Some, [], ◌+◌, ◌-◌, length}
+use Rattle.std.specs.Prelude.{◌≡◌, Ok, Some, [], length}
 use Rattle.std.proofs.Common.{rules, ap, arith}
 use Rattle.head.specs.NoteHead.{head_of}
 use Rattle.notes.specs.Laws.Notes.{notes_head, next_note}
@@ -16,8 +16,7 @@ returns-clause-steps c =
     let at = c.args.self.now.at in
     let k = c.in-Ok-Some.k in
     let stands : head_of c.args.self.now.list.now at ≡ Ok (Some k) = cc in
-    let bytes : at + 2 + k - (at + 2) ≡ k = omega arith in
-    rw bytes (next_note c.args.self.now.list.now at k stands)
+    rw (c.note_at-text.ensures, stands) (next_note c.args.self.now.list.now at k stands)
 
 pub returns-clause-goes : goal.returns-clause-goes
 returns-clause-goes c =
