@@ -4,6 +4,7 @@ use Rattle.std.specs.Prelude.{◌≡◌, refl, ◌≢◌, List, [], ◌∷◌, �
 use Rattle.std.proofs.Common.{◌∙◌}
 use Rattle.common.specs.Tools.{bool_or}
 use Rattle.common.specs.Refusal.{number_in}
+use Rattle.line.specs.Frame.{zeros_of, ticks_of}
 use Rattle.line.specs.Line.{note_fits}
 use Rattle.flags.specs.declared.Between.{Between}
 use Rattle.notes.specs.NoteList.{Reading, whole, refuses, rest_from, first_note, read_list, scanned}
@@ -12,6 +13,7 @@ use Rattle.report.specs.Report.{reported, report_of, pages_of, rows_in}
 use Rattle.chip.specs.declared.Chip.{Chip}
 use Rattle.promises.specs.Refusals.{first_row}
 use Rattle.listline.specs.ListLine.{chip_after}
+use Rattle.told.specs.Answers.{told_zeros, told_ticks}
 use Rattle.station.specs.Station.{send_of, listed_of}
 use Rattle.refusing.specs.Refusing.{length_bad, list_long, list_none, list_refused}
 
@@ -26,6 +28,18 @@ pub send_kept : (c : Chip) (note : List ℕ) → number_in (send_of c note).told
     → (send_of c note).chip ≡ c
 unfolding send_of
 send_kept c note n = bool_or (note_fits (length note)) (λ f. absurd ((rw f at n) refl)) (λ f. rw f)
+
+-- and the values of that answer: the frame's, or 0
+
+pub send_zeros : (c : Chip) (note : List ℕ)
+    → told_zeros (send_of c note).told ≡ (if note_fits (length note) then zeros_of note else 0)
+unfolding send_of
+send_zeros c note = bool_or (note_fits (length note)) (λ f. rw f refl) (λ f. rw f refl)
+
+pub send_ticks : (c : Chip) (note : List ℕ)
+    → told_ticks (send_of c note).told ≡ (if note_fits (length note) then ticks_of note else 0)
+unfolding send_of
+send_ticks c note = bool_or (note_fits (length note)) (λ f. rw f refl) (λ f. rw f refl)
 
 -- A list: rows 9, 5, then by its first bad note
 
