@@ -7,7 +7,6 @@ ghost use Rattle.imprint.specs.Imprint.{four_by, twelve_by};
 ghost use Rattle.bytewise.specs.Bytewise.{plate, behind, byte_stamped, two_stamped};
 
 use imprint::{lacks_cells, stamp_for, two_fit};
-use stamp::Tables;
 
 // Where the next byte goes, and the row of the stamps for it: 256 for each of the ones in a row before it.
 #[derive(Clone, Copy)]
@@ -52,28 +51,35 @@ fn put_stamp(out: &mut [u8], fours: &[u32; 16], at: usize, e: u16) -> Press
 }
 
 // A byte of content with its inserted zeros, where there is room for any byte's cells.
-pub fn put_byte(out: &mut [u8], tables: &Tables, p: Press, v: u8) -> Press
-    ensures value { result ≡ (byte_stamped tables.now.stamps tables.now.fours (plate out.old p) v).press }
-    ensures out_after { out.new ≡ (byte_stamped tables.now.stamps tables.now.fours (plate out.old p) v).buffer }
+pub fn put_byte(out: &mut [u8], stamps: &[u16; 1280], fours: &[u32; 16], p: Press, v: u8) -> Press
+    ensures value { result ≡ (byte_stamped stamps.now fours.now (plate out.old p) v).press }
+    ensures out_after { out.new ≡ (byte_stamped stamps.now fours.now (plate out.old p) v).buffer }
 {
     if lacks_cells(out.len(), p.at) {
         return p;
     }
-    let e = stamp_for(&tables.stamps, p.row, v);
-    put_stamp(out, &tables.fours, p.at, e)
+    let e = stamp_for(stamps, p.row, v);
+    put_stamp(out, fours, p.at, e)
 }
 
 // Two bytes of content with their inserted zeros. Where they fit, one test serves both.
-pub fn put_two(out: &mut [u8], tables: &Tables, p: Press, v: u8, w: u8) -> Press
-    ensures value { result ≡ (two_stamped tables.now.stamps tables.now.fours (plate out.old p) v w).press }
-    ensures out_after { out.new ≡ (two_stamped tables.now.stamps tables.now.fours (plate out.old p) v w).buffer }
+pub fn put_two(
+    out: &mut [u8],
+    stamps: &[u16; 1280],
+    fours: &[u32; 16],
+    p: Press,
+    v: u8,
+    w: u8,
+) -> Press
+    ensures value { result ≡ (two_stamped stamps.now fours.now (plate out.old p) v w).press }
+    ensures out_after { out.new ≡ (two_stamped stamps.now fours.now (plate out.old p) v w).buffer }
 {
     if two_fit(out.len(), p.at, p.row) {
-        let e = stamp_for(&tables.stamps, p.row, v);
-        let q = put_stamp(out, &tables.fours, p.at, e);
-        let f = stamp_for(&tables.stamps, q.row, w);
-        return put_stamp(out, &tables.fours, q.at, f);
+        let e = stamp_for(stamps, p.row, v);
+        let q = put_stamp(out, fours, p.at, e);
+        let f = stamp_for(stamps, q.row, w);
+        return put_stamp(out, fours, q.at, f);
     }
-    let q = put_byte(out, tables, p, v);
-    put_byte(out, tables, q, w)
+    let q = put_byte(out, stamps, fours, p, v);
+    put_byte(out, stamps, fours, q, w)
 }

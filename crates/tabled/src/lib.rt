@@ -33,13 +33,13 @@ fn put_text(out: &mut [u8], note: &[u8], tables: &Tables) -> Going
         if !two_fit(out.len(), press.at, press.row) {
             break;
         }
-        press = put_two(out, tables, press, *v, *w);
+        press = put_two(out, &tables.stamps, &tables.fours, press, *v, *w);
         check = looked_up(&tables.checks, check, *v);
         check = looked_up(&tables.checks, check, *w);
         rest = others;
     }
     for v in rest {
-        press = put_byte(out, tables, press, *v);
+        press = put_byte(out, &tables.stamps, &tables.fours, press, *v);
         check = looked_up(&tables.checks, check, *v);
     }
     Going { press, check }
@@ -52,8 +52,9 @@ fn put_check(out: &mut [u8], tables: &Tables, g: Going) -> usize
 {
     let check = g.check ^ PRESET;
     // the check is held in a whole word, of which to_le_bytes would give eight
-    let mut q = put_byte(out, tables, g.press, (check % 256) as u8);
-    q = put_byte(out, tables, q, (check / 256 % 256) as u8);
+    let (stamps, fours) = (&tables.stamps, &tables.fours);
+    let mut q = put_byte(out, stamps, fours, g.press, (check % 256) as u8);
+    q = put_byte(out, stamps, fours, q, (check / 256 % 256) as u8);
     q.at
 }
 

@@ -28,8 +28,8 @@ returns-then-two_fit c =
     let fit = c.two_fit in
     let room =
     roomy c.args.p.at c.args.p.row len fit.result fit.ensures c.if-two_fit.true in
-    let stamps = c.args.tables.now.stamps in
-    let fours = c.args.tables.now.fours in
+    let stamps = c.args.stamps.now in
+    let fours = c.args.fours.now in
     let start = plate c.args.out.now c.args.p in
     let behind-first = plate first.new.out first.result in
     let one : byte_stamped stamps fours start c.args.v ≡ behind-first =
