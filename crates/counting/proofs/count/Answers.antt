@@ -54,7 +54,7 @@ count_byte-t-requires c =
     let i = l.invariant in
     let note = c.args.note.now in
     let n = few note l.t (text_bits 8 (remaining note l.v-index l.m)) c.if-note-gt-LONGEST_NOTE.false i.left in
-    (i.closed, (i.run, omega (arith, i.run)))
+    (omega (arith, i.closed), (omega (arith, i.run), omega (arith, i.run)))
 
 pub loop-v-preserved : goal.loop-v-preserved
 loop-v-preserved c =

@@ -2,18 +2,17 @@
 use Rattle.std.proofs.Common.{◌≡◌, ◌-◌, Ok, false, length, ltb, drop, refl, ap}
 use Rattle.std.proofs.lemmas.Result.{err_from_is_err_and}
 use Rattle.line.specs.Frame.{ticks_of}
-use Rattle.zeros.specs.Laws.{refused_alike, line_there, room_there}
-use Rattle.lent.specs.Lent.{zeros_stamped, write_by}
+use Rattle.zeros.specs.Laws.{line_there, room_there}
+use Rattle.lent.specs.Lent.{write_by}
+use Rattle.lent.proofs.Laws.{refused_by_room}
 use Rattle.lent.proofs.write_line_by.Goals as goal
 
 pub returns-in_err-line_fits : goal.returns-in_err-line_fits
-unfolding write_by
 returns-in_err-line_fits c =
     let a = c.args in
-    let note = a.note.now in
     let t = a.tables.now in
-    let zeros = zeros_stamped t.checks t.stamps t.fours (drop a.at a.out.now) note in
-    let refused = rw c.saturating_sub.ensures at (refused_alike note c.saturating_sub.result zeros _ c.in_err-line_fits.ensures) in
+    let room = rw c.saturating_sub.ensures at c.in_err-line_fits.ensures in
+    let refused = refused_by_room t.checks t.stamps t.fours a.note.now a.out.now a.at _ room in
     let p = err_from_is_err_and c.from_residual.result c.from_residual.ensures.1 in
     rw (refused, p.1, p.2) (record { value = refl; out_after = refl })
 

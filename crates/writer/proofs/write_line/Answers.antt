@@ -4,18 +4,15 @@ use Rattle.std.proofs.Common.{◌≡◌, ◌-◌, Ok, false, length, ltb, refl, 
 use Rattle.std.proofs.lemmas.Result.{err_from_is_err_and}
 use Rattle.line.specs.Bits.{cells}
 use Rattle.line.specs.Frame.{frame, zeros_of, ticks_of}
-use Rattle.zeros.specs.Laws.{refused_alike, line_there, room_there}
+use Rattle.zeros.specs.Laws.{line_there, room_there}
 use Rattle.writer.specs.Writer.{write_of}
-use Rattle.writer.proofs.Laws.{part_back}
+use Rattle.writer.proofs.Laws.{refused_by_room, part_back}
 use Rattle.writer.proofs.write_line.Goals as goal
 
 pub returns-in_err-line_fits : goal.returns-in_err-line_fits
-unfolding write_of
 returns-in_err-line_fits c =
     let a = c.args in
-    let note = a.note.now in
-    let e = refused_alike note c.saturating_sub.result (zeros_of note) _ c.in_err-line_fits.ensures in
-    let refused = rw c.saturating_sub.ensures at e in
+    let refused = refused_by_room a.note.now a.out.now a.at _ (rw c.saturating_sub.ensures at c.in_err-line_fits.ensures) in
     let p = err_from_is_err_and c.from_residual.result c.from_residual.ensures.1 in
     rw (refused, p.1, p.2) (record { value = refl; out_after = refl })
 
