@@ -13,7 +13,7 @@ use text::Line;
 
 // How a run ends: all was played; an event has an unknown code, or is cut; there are more bytes than are taken.
 #[derive(Clone, Copy)]
-enum Ending {
+pub enum Ending {
     All,
     Unknown,
     Cut,
