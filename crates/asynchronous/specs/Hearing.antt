@@ -5,7 +5,7 @@ use Rattle.std.specs.Bool.{beq}
 use Rattle.std.specs.Int.Bits.{bit_xor}
 use Rattle.line.specs.Bits.{one_if}
 use Rattle.line.specs.Check.{differs}
-use Rattle.shapes.specs.Sent.{size}
+use Rattle.shapes.specs.Sent.{size, length_named}
 use Rattle.entry.specs.Entry.{received}
 use Rattle.entry.specs.declared.Entry.{Entry}
 use Rattle.asynchronous.specs.declared.Format.{Format}
@@ -37,7 +37,7 @@ in_silence a x = assembled a x None
 abbrev pub begun_as : Format → Assembly
 begun_as f = record {
   wait = false;
-  left = size f.length + one_if f.parity + 1;
+  left = size (length_named f.length) + one_if f.parity + 1;
   bits = 0xFF;
   weight = 1;
   odd = false;

@@ -4,7 +4,7 @@
 use Rattle.std.specs.Prelude.{Bool, true, false, not, ◌&&◌, List, [], ◌∷◌, ◌++◌, ℕ, ◌-◌, ◌/◌, eqb, length, if◌then◌else◌}
 use Rattle.line.specs.Bits.{odd}
 use Rattle.line.specs.Bits.{from_low}
-use Rattle.shapes.specs.Sent.{sent_bits, parity_bit}
+use Rattle.shapes.specs.Sent.{length_named, sent_bits, parity_bit}
 use Rattle.shared.specs.declared.Shared.{Shared}
 use Rattle.shared.specs.Shared.{full, waiting_byte, emptied}
 use Rattle.asynchronous.specs.declared.Format.{Format}
@@ -32,7 +32,8 @@ stops_named n = if eqb n 2 then Two else One
 abbrev pub character_bits : Typing → ℕ → List Bool
 character_bits g v =
     let bs =
-    sent_bits g.format.length v in bs ++ (parity_bits g.format bs ++ stop_bits g.stops)
+    sent_bits (length_named g.format.length) v
+    in bs ++ (parity_bits g.format bs ++ stop_bits (stops_named g.stops))
 
 -- The character on the line, and a tick
 

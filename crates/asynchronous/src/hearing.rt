@@ -4,6 +4,7 @@ ghost use Rattle.asynchronous.specs.Hearing.{begun_as, bits_with, with_bit, in_s
 
 use crate::{Assembled, Assembly, Format};
 use entry::Entry;
+use shapes::Length;
 
 impl Format {
     // A character starts, as set now.
@@ -12,7 +13,7 @@ impl Format {
     {
         Assembly {
             wait: false,
-            left: self.length.size() + u8::from(self.parity) + 1,
+            left: Length::of(self.length).size() + u8::from(self.parity) + 1,
             bits: 0xFF,
             weight: 1,
             odd: false,

@@ -9,13 +9,12 @@ ghost use Rattle.asynchronous.specs.Sending.{no_character, under_way};
 ghost use Rattle.asynchronous.specs.Hearing.{no_assembly};
 
 use entry::Entry;
-use shapes::Length;
 use shared::Shared;
 
-// A character's data bits, and its parity.
+// A character's data bits, five to eight (anything else is eight, by `Length::of`), and its parity.
 #[derive(Clone, Copy)]
 pub struct Format {
-    pub length: Length,
+    pub length: u8,
     pub parity: bool,
     pub even: bool,
 }
@@ -27,12 +26,12 @@ pub enum Stops {
     Two = 2,
 }
 
-// What registers and CTS say of sending. on: WR5 D3 and, with auto enables, CTS.
+// What registers and CTS say of sending. on: WR5 D3 and, with auto enables, CTS; stops: their number, by `Stops::of`.
 #[derive(Clone, Copy)]
 pub struct Typing {
     pub on: bool,
     pub format: Format,
-    pub stops: Stops,
+    pub stops: u8,
 }
 
 // The character on the line, behind its start bit: so many bits are left to send (0: none is under way), and these, the first lowest.

@@ -4,6 +4,7 @@ ghost use Rattle.line.specs.Bits.{from_low};
 ghost use Rattle.asynchronous.specs.Sending.{stops_named, stop_bits, character_of, idling, tick_character};
 
 use crate::{Character, Stops, Typed, Typing};
+use shapes::Length;
 use shared::Shared;
 
 impl Stops {
@@ -17,7 +18,7 @@ impl Stops {
 
     // How many they are.
     #[tactic(auto, unfolding(crate::specs::Sending::stop_bits))]
-    fn count(self) -> u8
+    pub fn count(self) -> u8
         ensures value { result ≡ length (stop_bits self) }
         ensures upper_bound { result ≤ 2 }
     {
@@ -52,11 +53,13 @@ impl Typing {
     fn character(self, v: u8) -> Character
         ensures { result ≡ character_of self v }
     {
-        let n = self.format.length.bits_sent(v);
-        let count = self.stops.count();
-        let ones = self.stops.ones();
+        let length = Length::of(self.format.length);
+        let stops = Stops::of(self.stops);
+        let n = length.bits_sent(v);
+        let count = stops.count();
+        let ones = stops.ones();
         if self.format.parity {
-            let p = u8::from(self.format.length.parity_bit(self.format.even, v));
+            let p = u8::from(length.parity_bit(self.format.even, v));
             return Character {
                 left: n + 1 + count,
                 bits: above(n, v, ones * 2 + p),

@@ -7,8 +7,8 @@ use Rattle.line.specs.Insertion.{stuff}
 use Rattle.line.specs.Bits.{from_low}
 use Rattle.queue.specs.Queue.{pushed, taken, oldest, rr1, rr1_told, special}
 use Rattle.shapes.specs.Shapes.{shape_bits}
-use Rattle.shapes.specs.Sent.{bits_sent, odd_over}
-use Rattle.asynchronous.specs.Sending.{stop_bits, tick_character}
+use Rattle.shapes.specs.Sent.{length_named, bits_sent, odd_over}
+use Rattle.asynchronous.specs.Sending.{stop_bits, stops_named, tick_character}
 use Rattle.asynchronous.specs.Hearing.{bits_with, hear_character}
 use Rattle.sdlc.specs.Sending.{following, going, tick_sdlc}
 use Rattle.sdlc.specs.Hearing.{accept, push, one, zero_bit, hear_sdlc}
@@ -33,7 +33,7 @@ use Rattle.chip.specs.Chip.{data_read_call, transmit_call, receive_call, lines_c
 unfoldable pub computing : ℕ
 unfolding
     low_bits text_bits check_step check_over top_bits check_bits stuff from_low pushed taken oldest rr1
-    rr1_told special shape_bits bits_sent odd_over stop_bits tick_character bits_with hear_character
+    rr1_told special shape_bits length_named bits_sent odd_over stop_bits stops_named tick_character bits_with hear_character
     following going tick_sdlc accept push one zero_bit hear_sdlc following_block tick_block sync_seen
     hunting entering arrived assembling hear_block tick hear mode_of not_built length_of sending_of
     receiving_of changed noticed afresh live_of settled commanded preset command_step preset_step

@@ -1,13 +1,15 @@
 -- 01, Registers: what the write registers say, each bit named once. Assumes nothing.
-use Rattle.std.specs.Prelude.{Bool, not, ◌&&◌, ◌||◌, ℕ, ◌/◌, ◌%◌, eqb, if◌then◌else◌}
+use Rattle.std.specs.Prelude.{Bool, not, ◌&&◌, ◌||◌, ℕ, ◌/◌, ◌%◌, eqb, length, if◌then◌else◌}
 use Rattle.common.specs.declared.Mode.{Mode}
 use Rattle.common.specs.declared.Mode.TheVariants.{Asynchronous, Monosync, Bisync, Sdlc}
 use Rattle.line.specs.Bits.{odd}
 use Rattle.shapes.specs.declared.Length.{Length}
 use Rattle.shapes.specs.declared.Length.TheVariants.{Five, Six, Seven, Eight}
+use Rattle.shapes.specs.Sent.{size}
 use Rattle.asynchronous.specs.declared.Format.{Format}
 use Rattle.asynchronous.specs.declared.Stops.{Stops}
 use Rattle.asynchronous.specs.declared.Stops.TheVariants.{One, Two}
+use Rattle.asynchronous.specs.Sending.{stop_bits}
 use Rattle.bytesync.specs.declared.Syncs.{Syncs}
 use Rattle.bytesync.specs.Syncs.{syncs, polynomial_of}
 use Rattle.bytesync.specs.Sending.{syncing}
@@ -181,7 +183,7 @@ stops_of wr4 = if eqb (stop_field wr4) 3 then Two else One
 -- a character's length, by its two bits, and its parity
 abbrev pub format_of : Registers → ℕ → Format
 format_of r field =
-    record { length = length_of field; parity = parity_on r.wr4; even = even_parity r.wr4 }
+    record { length = size (length_of field); parity = parity_on r.wr4; even = even_parity r.wr4 }
 
 -- 01, Sending: "On means WR5 D3 and, with auto enables, CTS."
 abbrev pub sends : Registers → Lines → Bool
@@ -199,7 +201,7 @@ sending_of r l = record {
   typing = record {
     on = sends r l;
     format = format_of r (sent_field r.wr5);
-    stops = stops_of r.wr4;
+    stops = length (stop_bits (stops_of r.wr4));
   };
   syncing = syncing (sends r l) (check_included r.wr5) (polynomial_in r) (syncs_in r);
 }

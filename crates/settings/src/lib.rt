@@ -238,7 +238,7 @@ impl Registers {
         ensures { result ≡ format_of self field }
     {
         Format {
-            length: length_of(field),
+            length: length_of(field).size(),
             parity: bit(self.wr4, 0),
             even: bit(self.wr4, 1),
         }
@@ -274,7 +274,7 @@ impl Registers {
             typing: Typing {
                 on,
                 format: self.format(self.wr5 / 32 % 4),
-                stops: stops_of(self.wr4),
+                stops: stops_of(self.wr4).count(),
             },
             syncing: Syncing {
                 on,

@@ -4,7 +4,7 @@ use Rattle.std.specs.Prelude.{◌≡◌, Bool, true, List, [], ◌∷◌, ◌++�
 use Rattle.std.proofs.Common.{arith, length-append}
 use Rattle.common.specs.Tools.{bool_or, if_elim}
 use Rattle.line.specs.Laws.Bits.{low_bits_length}
-use Rattle.shapes.specs.Sent.{bits_sent, sent_bits}
+use Rattle.shapes.specs.Sent.{length_named, bits_sent, sent_bits}
 use Rattle.shapes.proofs.Sent.{bits_most}
 use Rattle.asynchronous.specs.declared.Format.{Format}
 use Rattle.asynchronous.specs.declared.Stops.{Stops}
@@ -32,10 +32,10 @@ stops_most_named n = stops_most (stops_named n)
 
 pub character_most : (g : Typing) (v : ℕ) → length (character_bits g v) ≤ 11
 character_most g v =
-    let n = g.format.length in
+    let n = length_named g.format.length in
     let d = sent_bits n v in
     let p = parity_bits g.format d in
-    let s = stop_bits g.stops in
+    let s = stop_bits (stops_named g.stops) in
     omega (
       arith,
       length-append d (p ++ s),
@@ -43,5 +43,5 @@ character_most g v =
       low_bits_length (bits_sent n v) v,
       bits_most n v,
       parity_most g.format d,
-      stops_most g.stops,
+      stops_most (stops_named g.stops),
     )

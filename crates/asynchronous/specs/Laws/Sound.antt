@@ -4,7 +4,7 @@ use Rattle.std.proofs.Common.{arith}
 use Rattle.common.specs.Tools.{if_elim}
 use Rattle.shapes.specs.declared.Length.{Length}
 use Rattle.shapes.specs.declared.Length.TheVariants.{Five, Six, Seven, Eight}
-use Rattle.shapes.specs.Sent.{size}
+use Rattle.shapes.specs.Sent.{size, length_named}
 use Rattle.shared.specs.declared.Shared.{Shared}
 use Rattle.shared.specs.Shared.{full, waiting_byte}
 use Rattle.asynchronous.specs.declared.Format.{Format}
@@ -45,5 +45,5 @@ unfolding hear_character
 hear_sound g a x b h =
     if_elim SoundAssembled a.wait (if_elim SoundAssembled b h h)
     (if_elim SoundAssembled (eqb a.left 0)
-    (if_elim SoundAssembled b h (omega (arith, size_within g.length, bit_few g.parity)))
+    (if_elim SoundAssembled b h (omega (arith, size_within (length_named g.length), bit_few g.parity)))
     (if_elim SoundAssembled (eqb a.left 1) (omega arith) (omega arith)))

@@ -1,6 +1,6 @@
 -- Which events leave a channel's sender alone: a test that a reader can run on an event, and that
 -- it is enough, for every part that the sender and what it is told say. Assumes nothing.
-use Rattle.std.specs.Prelude.{◌≡◌, refl, Bool, true, false, not, ◌&&◌, ◌||◌, ℕ, eqb}
+use Rattle.std.specs.Prelude.{◌≡◌, refl, Bool, true, false, not, ◌&&◌, ◌||◌, ℕ, eqb, length}
 use Rattle.std.proofs.Common.{sym, ap, ◌∙◌}
 use Rattle.std.specs.Bool.{beq}
 use Rattle.common.specs.Tools.{if_elim, by_test, void, both_left, both_right}
@@ -8,6 +8,7 @@ use Rattle.common.specs.Mode.{synchronous, same_mode, mode_same}
 use Rattle.common.specs.declared.Mode.{Mode}
 use Rattle.sdlc.specs.Sending.{framing}
 use Rattle.queue.specs.Queue.{waits}
+use Rattle.asynchronous.specs.Sending.{stop_bits}
 use Rattle.bytesync.specs.Sending.{syncing}
 use Rattle.sender.specs.declared.Sender.{Sender}
 use Rattle.sender.specs.declared.Sending.{Sending}
@@ -153,7 +154,7 @@ tells r enabled =
       typing = record {
         on = on;
         format = format_of r (sent_field r.wr5);
-        stops = stops_of r.wr4;
+        stops = length (stop_bits (stops_of r.wr4));
       };
       syncing = syncing on (check_included r.wr5) (polynomial_in r) (syncs_in r);
     }
