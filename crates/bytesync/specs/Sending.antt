@@ -4,7 +4,7 @@
 use Rattle.std.specs.Prelude.{Bool, true, false, not, ◌&&◌, ℕ, ◌-◌, ◌/◌, eqb, if◌then◌else◌}
 use Rattle.line.specs.Bits.{odd}
 use Rattle.line.specs.Check.{top, shifted}
-use Rattle.shared.specs.Shared.{full, waiting_byte, emptied, latched, entered}
+use Rattle.shared.specs.Shared.{full, waiting_byte, emptied, latched, byte_entered}
 use Rattle.shared.specs.declared.Shared.{Shared}
 use Rattle.bytesync.specs.declared.Syncs.{Syncs}
 use Rattle.bytesync.specs.declared.BlockUnit.{BlockUnit}
@@ -43,7 +43,7 @@ start_sync g k =
 -- then. "No zeros are inserted.": v, which waited
 abbrev pub start_byte : Syncing → ℕ → Shared → Synced
 start_byte g v k =
-    synced (odd v) true (Byte 7 (v / 2)) (emptied (entered g.polynomial g.included v k))
+    synced (odd v) true (Byte 7 (v / 2)) (emptied (byte_entered g.polynomial g.included v k))
 
 -- "not complemented", x^15 first, taken at its first bit; sending it leaves the generator alone
 abbrev pub start_check : Shared → Synced

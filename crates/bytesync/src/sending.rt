@@ -61,7 +61,7 @@ impl Syncing {
             bit: v % 2 == 1,
             loaded: true,
             unit: BlockUnit::Byte(7, v / 2),
-            shared: k.entered(v, self.polynomial, self.included).emptied(),
+            shared: k.byte_entered(v, self.polynomial, self.included).emptied(),
         }
     }
 

@@ -7,7 +7,7 @@ use Rattle.std.proofs.Common.{arith, le-leb}
 use Rattle.chip.specs.declared.Chip.{Chip}
 use Rattle.chip.specs.Chip.{hard_reset}
 use Rattle.chip.specs.Computing.{computing}
-use Rattle.script.specs.Shown.{pointed_at, register_of}
+use Rattle.script.specs.Shown.{pointed_at, register_of, shown}
 use Rattle.text.specs.declared.Line.{Line}
 use Rattle.text.specs.Text.{newline, space, empty_line, with, decimal}
 use Rattle.events.specs.declared.Ending.{Ending}
@@ -46,7 +46,7 @@ nothing_prints_nothing = refl
 
 pub codes_0_and_9_are_known :
     printed (0 ∷ 0 ∷ 0 ∷ 0 ∷ 9 ∷ 0 ∷ 0 ∷ 0 ∷ []) ≡ reset_line ++ reset_line
-unfolding computing pointed_at register_of with decimal found_at told_line next
+unfolding computing pointed_at register_of shown with decimal found_at told_line next
 codes_0_and_9_are_known = refl
 
 pub code_10_is_unknown : printed (10 ∷ 0 ∷ 0 ∷ 0 ∷ 0 ∷ 0 ∷ 0 ∷ 0 ∷ []) ≡ at unknown_word 49
@@ -56,7 +56,7 @@ code_10_is_unknown = refl
 -- and the run stops there
 pub code_255_behind_code_0_is_unknown :
     printed (0 ∷ 0 ∷ 0 ∷ 0 ∷ 255 ∷ 0 ∷ 0 ∷ 0 ∷ 0 ∷ 0 ∷ 0 ∷ 0 ∷ []) ≡ reset_line ++ at unknown_word 50
-unfolding computing pointed_at register_of with decimal found_at told_line next
+unfolding computing pointed_at register_of shown with decimal found_at told_line next
 code_255_behind_code_0_is_unknown = refl
 
 pub one_byte_is_a_cut_event : printed (0 ∷ []) ≡ at cut_word 49
@@ -67,7 +67,7 @@ one_byte_is_a_cut_event = refl
 pub three_bytes_behind_two_events_are_a_cut_event :
     printed (0 ∷ 0 ∷ 0 ∷ 0 ∷ 9 ∷ 0 ∷ 0 ∷ 0 ∷ 10 ∷ 0 ∷ 0 ∷ [])
     ≡ reset_line ++ reset_line ++ at cut_word 51
-unfolding computing pointed_at register_of with decimal found_at told_line next
+unfolding computing pointed_at register_of shown with decimal found_at told_line next
 three_bytes_behind_two_events_are_a_cut_event = refl
 
 -- behind a run's end every line is empty

@@ -6,7 +6,7 @@ use Rattle.chip.specs.declared.Outcome.{Outcome}
 use Rattle.chip.specs.Event.{step}
 use Rattle.script.specs.declared.Event.{Event}
 use Rattle.script.specs.Step.{event_of, said}
-use Rattle.script.specs.Shown.{shown}
+use Rattle.script.specs.Shown.{numbers}
 use Rattle.text.specs.declared.Line.{Line}
 use Rattle.text.specs.Text.{newline, space, empty_line, with_all, numbered}
 use Rattle.events.specs.declared.Ending.{Ending}
@@ -67,7 +67,7 @@ with_numbers l numbers = fold (λ k v. numbered k v space) l numbers
 -- an event's seven numbers, and a newline behind the last
 unfoldable pub told_line : Outcome → Line
 told_line o =
-    numbered (with_numbers empty_line (take 6 (shown o))) (get_or (shown o) 6 0) newline
+    numbered (with_numbers empty_line (take 6 (numbers o))) (get_or (numbers o) 6 0) newline
 
 abbrev pub telling : Line → Chip → ℕ → Told
 telling l c at = record { line = l; chip = c; at = at }

@@ -86,7 +86,7 @@ fn with_numbers(l: Line, numbers: &[u8]) -> Line
 fn told_line(o: Outcome) -> Line
     ensures { result ≡ told_line o }
 {
-    let numbers = script::shown(o);
+    let numbers = script::numbers(o);
     with_numbers(Line::empty(), &numbers[..6]).with_number(usize::from(numbers[6]), b'\n')
 }
 

@@ -52,7 +52,7 @@ fn start_byte(g: Framing, run: u8, v: u8, k: Shared) -> Framed
         framer: Framer {
             unit: LineUnit::Byte(7, v / 2),
             insertion: Insertion::counted(run, b),
-            shared: k.entered(v, SDLC, g.included).emptied(),
+            shared: k.byte_entered(v, SDLC, g.included).emptied(),
         },
     }
 }

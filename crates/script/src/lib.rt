@@ -5,7 +5,7 @@
 ghost use Rattle.std.specs.Prelude.{◌≡◌};
 ghost use Rattle.chip.specs.Event.{acked_answer, step};
 ghost use Rattle.script.specs.Step.{event_of, said};
-ghost use Rattle.script.specs.Shown.{register_of, shown};
+ghost use Rattle.script.specs.Shown.{register_of, shown, numbers};
 
 use channel::Answer;
 use chip::{Chip, Outcome};
@@ -103,17 +103,34 @@ pub fn register(c: Chip, channel: u8, n: u8) -> u8
     o.answer.value()
 }
 
-// An event's numbers: its refusal, its value, and RR0 and RR1 of A, RR0, RR1 and RR2 of B behind it.
-pub fn shown(o: Outcome) -> [u8; 7]
-    ensures { result ≡ shown o }
+// An event's number at place k, from 0 on: its refusal, its value, and RR0 and RR1 of A, RR0, RR1 and RR2 of B behind it; this last at any place
+// above.
+#[tactic(auto, unfolding(crate::specs::Shown::shown))]
+pub fn shown(o: Outcome, k: u8) -> u8
+    ensures { result ≡ shown o k }
+{
+    match k {
+        0 => o.answer.number(),
+        1 => o.answer.value(),
+        2 => register(o.chip, 0, 0),
+        3 => register(o.chip, 0, 1),
+        4 => register(o.chip, 1, 0),
+        5 => register(o.chip, 1, 1),
+        _ => register(o.chip, 1, 2),
+    }
+}
+
+// An event's seven numbers, in that order.
+pub fn numbers(o: Outcome) -> [u8; 7]
+    ensures { result ≡ numbers o }
 {
     [
-        o.answer.number(),
-        o.answer.value(),
-        register(o.chip, 0, 0),
-        register(o.chip, 0, 1),
-        register(o.chip, 1, 0),
-        register(o.chip, 1, 1),
-        register(o.chip, 1, 2),
+        shown(o, 0),
+        shown(o, 1),
+        shown(o, 2),
+        shown(o, 3),
+        shown(o, 4),
+        shown(o, 5),
+        shown(o, 6),
     ]
 }

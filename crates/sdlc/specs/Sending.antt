@@ -6,7 +6,7 @@ use Rattle.line.specs.Bits.{odd}
 use Rattle.line.specs.Check.{sdlc, top, shifted, complement}
 use Rattle.line.specs.Insertion.{counted}
 use Rattle.line.specs.declared.Insertion.{Insertion}
-use Rattle.shared.specs.Shared.{full, waiting_byte, emptied, latched, entered}
+use Rattle.shared.specs.Shared.{full, waiting_byte, emptied, latched, byte_entered}
 use Rattle.shared.specs.declared.Shared.{Shared}
 use Rattle.sdlc.specs.declared.LineUnit.{LineUnit}
 use Rattle.sdlc.specs.declared.LineUnit.TheVariants.{Mark, Flag, Byte, Check, Abort}
@@ -52,7 +52,7 @@ start_flag k = sent_bit false (Flag 7) not_counted k
 abbrev pub start_byte : Framing → ℕ → ℕ → Shared → Framed
 start_byte g run v k =
     let i = counted run (odd v) in
-    framed (odd v) true (framer (Byte 7 (v / 2)) i (emptied (entered sdlc g.included v k)))
+    framed (odd v) true (framer (Byte 7 (v / 2)) i (emptied (byte_entered sdlc g.included v k)))
 
 -- "The check: .. complemented, x^15 first (ISO/IEC 13239), taken at its first bit. Sending it
 -- leaves the generator alone."

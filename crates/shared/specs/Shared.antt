@@ -39,6 +39,10 @@ abbrev pub check_set : Shared → ℕ → Shared
 check_set k c = shared k.buffer k.latch c
 
 -- "A byte enters the check at its load if WR5 D0 is set.": v, over the polynomial p
-abbrev pub entered : ℕ → Bool → ℕ → Shared → Shared
-entered p included v k =
+abbrev pub byte_entered : ℕ → Bool → ℕ → Shared → Shared
+byte_entered p included v k =
     check_set k (if included then check_over p k.check (low_bits 8 v) else k.check)
+
+-- the byte in the buffer enters it
+abbrev pub entered : ℕ → Bool → Shared → Shared
+entered p included k = byte_entered p included (waiting_byte k) k

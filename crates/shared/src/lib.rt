@@ -3,7 +3,7 @@
 
 ghost use Rattle.std.specs.Prelude.{◌≡◌};
 ghost use Rattle.shared.specs.Preset.{preset_for};
-ghost use Rattle.shared.specs.Shared.{shared_at_reset, filled, emptied, latched, cleared, check_set, entered};
+ghost use Rattle.shared.specs.Shared.{shared_at_reset, filled, emptied, latched, cleared, check_set, byte_entered, entered};
 
 use common::{Mode, in_blocks};
 use line::{ONES, check_byte};
@@ -80,12 +80,19 @@ impl Shared {
 
     // The byte v enters the check over the polynomial p, if it is included. Part of each mode's tick, whose polynomial is known there.
     #[inline(always)]
-    pub fn entered(self, v: u8, p: u16, included: bool) -> Shared
-        ensures { result ≡ entered p included v self }
+    pub fn byte_entered(self, v: u8, p: u16, included: bool) -> Shared
+        ensures { result ≡ byte_entered p included v self }
     {
         if included {
             return self.check_set(check_byte(p, self.check, v));
         }
         self
+    }
+
+    // The byte in the buffer enters the check over the polynomial p, if it is included; of an empty buffer 0.
+    pub fn entered(self, p: u16, included: bool) -> Shared
+        ensures { result ≡ entered p included self }
+    {
+        self.byte_entered(self.buffer.unwrap_or(0), p, included)
     }
 }

@@ -2,6 +2,7 @@
 use Rattle.std.specs.Prelude.{◌≡◌, Ok, Some, [], length}
 use Rattle.std.proofs.Common.{rules, ap, arith}
 use Rattle.head.specs.NoteHead.{head_of}
+use Rattle.head.specs.Laws.{note_at_note}
 use Rattle.notes.specs.Laws.Notes.{notes_head, next_note}
 use Rattle.notes.specs.Notes.{notes_left}
 use Rattle.notes.proofs.NotesIterator.next.Goals as goal
@@ -16,7 +17,9 @@ returns-clause-steps c =
     let at = c.args.self.now.at in
     let k = c.in-Ok-Some.k in
     let stands : head_of c.args.self.now.list.now at ≡ Ok (Some k) = cc in
-    rw (c.note_at-text.ensures, stands) (next_note c.args.self.now.list.now at k stands)
+    let text = note_at_note c.args.self.now.list.now at k stands in
+    let next = next_note c.args.self.now.list.now at k stands in
+    cc (c.note_at-text.ensures, text, next)
 
 pub returns-clause-goes : goal.returns-clause-goes
 returns-clause-goes c =
