@@ -62,7 +62,7 @@ last_line TooLong at = with_all empty_line too_long_words
 
 -- numbers, a space behind each
 abbrev pub with_numbers : Line → List ℕ → Line
-with_numbers l numbers = fold (λ k v. numbered k v space) l numbers
+with_numbers l vs = fold (λ k v. numbered k v space) l vs
 
 -- an event's seven numbers, and a newline behind the last
 unfoldable pub told_line : Outcome → Line

@@ -121,6 +121,7 @@ pub fn shown(o: Outcome, k: u8) -> u8
 }
 
 // An event's seven numbers, in that order.
+#[tactic(auto, unfolding(crate::specs::Shown::shown))]
 pub fn numbers(o: Outcome) -> [u8; 7]
     ensures { result ≡ numbers o }
 {

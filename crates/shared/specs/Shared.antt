@@ -12,7 +12,7 @@ shared b l c = record { buffer = b; latch = l; check = c }
 abbrev pub full : Shared → Bool
 full k = is_some k.buffer
 
--- the byte that waits; of an empty buffer 0, which nothing reads
+-- the byte that waits; of an empty buffer 0
 abbrev pub waiting_byte : Shared → ℕ
 waiting_byte k = unwrap_or k.buffer 0
 
