@@ -104,7 +104,8 @@ pub fn register(c: Chip, channel: u8, n: u8) -> u8
 }
 
 // An event's number at place k, from 0 on: its refusal, its value, and RR0 and RR1 of A, RR0, RR1 and RR2 of B behind it; this last at any place
-// above.
+// above. Part of `numbers`, where each place is known.
+#[inline(always)]
 #[tactic(auto, unfolding(crate::specs::Shown::shown))]
 pub fn shown(o: Outcome, k: u8) -> u8
     ensures { result ≡ shown o k }
