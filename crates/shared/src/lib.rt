@@ -78,7 +78,7 @@ impl Shared {
         self
     }
 
-    // The byte v enters the check over the polynomial p, if it is included. Part of each mode's tick, whose polynomial is known there.
+    // The byte v enters the check over the polynomial p, if it is included. Part of each `start_byte` that calls it.
     #[inline(always)]
     pub fn byte_entered(self, v: u8, p: u16, included: bool) -> Shared
         ensures { result ≡ byte_entered p included v self }
